@@ -1,0 +1,11 @@
+pub mod Rounding
+pub mod Sums
+pub mod Lists
+pub mod IntegerLaws
+pub mod RingLaws
+pub mod OrderLaws
+pub mod RoundingLaws
+pub mod RangeLaws
+pub mod SumLaws
+pub mod ListLaws
+pub mod TestLaws

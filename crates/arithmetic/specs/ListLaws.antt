@@ -1,0 +1,54 @@
+-- Laws of lists by their entries, and of a loop that fills a list from the front.
+use mathlib.Core.Path.{_≡_, refl, sym, _∙_, ap}
+use mathlib.Core.List.{List, [], _∷_, _++_, append-nil}
+use mathlib.Core.Logic.{dite}
+use Prim.Native.Nat.{ℕ, zero, suc, _+_, _<_}
+use native.Mathlib.Nat.{not-suc-le-zero}
+use native.Mathlib.Numerals.{add-one}
+use native.Mathlib.Omega.{arith}
+use native.Mathlib.Decide.{decLt}
+use lib.ListN.{length, set, drop, getD, length-append, List·getD-append, drop-of-length-le, length-set}
+use lib.Seq.{set-at, drop-cons, append-snoc, getD-at}
+use Rattle.arithmetic.specs.Lists.{table}
+
+module _ {A : Type 0} (f : ℕ → A) where
+  pub length-table : (m : ℕ) → length (table m f) ≡ m
+  unfolding table
+  length-table zero = refl
+  length-table (suc m) = length-append (table m f) (f m ∷ []) ∙ omega (arith, length-table m)
+
+  -- the entry at i
+  pub getD-table : (d : A) (m i : ℕ) → i < m → getD (table m f) i d ≡ f i
+  unfolding table
+  getD-table d zero i h = absurd (not-suc-le-zero h)
+  getD-table d (suc m) i h =
+      dite
+      (decLt i m)
+      (λ l. List·getD-append (table m f) (f m ∷ []) d i (omega (arith, length-table m)) ∙ getD-table d m i l)
+      (λ g. let e : i ≡ m = omega arith in getD-at (table m f) (f m) [] d i (length-table m ∙ sym e) ∙ ap f (sym e))
+
+  -- a store of f k at k, where the first k are written
+  table-more : (k : ℕ) (d : List A) → k < length d → set (table k f ++ drop k d) k (f k) ≡ table (k + 1) f ++ drop (k + 1) d
+  unfolding table
+  table-more k [] h = absurd (not-suc-le-zero h)
+  table-more k (x ∷ d) h =
+      rw
+      (add-one k, drop-cons (x ∷ d) k x h)
+      (set-at (table k f) (getD (x ∷ d) k x) (drop (suc k) (x ∷ d)) (f k) k (length-table k) ∙ sym (append-snoc (table k f) (f k) (drop (suc k) (x ∷ d))))
+
+-- the first k entries of out are f 0 .. f (k - 1), and the rest is as it was in out₀
+pub record Filled {A : Type 0} (f : ℕ → A) (k : ℕ) (out out₀ : List A) : Type 0 where
+  pub is : out ≡ table k f ++ drop k out₀
+  pub room : length out ≡ length out₀
+
+module _ {A : Type 0} (f : ℕ → A) where
+  pub filled-none : (d : List A) → Filled f 0 d d
+  unfolding table
+  filled-none d = record { is = refl; room = refl }
+
+  pub filled-more : (k : ℕ) (out out₀ : List A) (v : A) → Filled f k out out₀ → k < length out → v ≡ f k → Filled f (k + 1) (set out k v) out₀
+  filled-more k out out₀ v so less e =
+      record { is = rw (e, so .is) (table-more f k out₀ (omega (arith, so .room))); room = length-set out k v ∙ so .room }
+
+  pub filled-all : (k : ℕ) (out out₀ : List A) → Filled f k out out₀ → length out₀ ≡ k → out ≡ table k f
+  filled-all k out out₀ so e = so .is ∙ rw (drop-of-length-le out₀ {i = k} (omega arith)) (append-nil (table k f))

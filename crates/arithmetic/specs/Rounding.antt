@@ -1,0 +1,26 @@
+-- The quotient rounded down, the quotient rounded to the nearest, and the range of a sample: definitions.
+-- Document 01, 'Rounding and the cosine table' and the clamp of 'Synthesis stream'.
+use mathlib.Core.Bool.{cond}
+use Prim.Native.Nat.{ℕ, _/_}
+use lib.IntN.{ℤ, pos, negsuc, _+ℤ_}
+use lib.Signed.{ltZ}
+
+-- the floor of a/b: the largest whole number that is at most a/b, for b above 0. negsuc a stands for -(a + 1)
+unfoldable pub floor : ℤ → ℕ → ℤ
+floor (pos a) b = pos (a / b)
+floor (negsuc a) b = negsuc (a / b)
+
+-- rnd(a/b), the nearest whole number, an exact half going up: the floor of (a + b/2)/b, b/2 rounded down
+unfoldable pub rnd : ℤ → ℕ → ℤ
+rnd a b = floor (a +ℤ pos (b / 2)) b
+
+-- the least and the largest sample
+abbrev pub least : ℤ
+least = negsuc 32767
+
+abbrev pub largest : ℤ
+largest = pos 32767
+
+-- z clamped to -32,768 .. 32,767
+unfoldable pub clamp : ℤ → ℤ
+clamp z = cond (ltZ z least) least (cond (ltZ largest z) largest z)

@@ -1,0 +1,172 @@
+-- Laws of floor, rnd and clamp. Nothing above this crate opens their text.
+use mathlib.Core.Path.{_≡_, refl}
+use mathlib.Core.Bool.{Bool, true, false}
+use mathlib.Core.Logic.{⊎-elim}
+use Prim.Native.Nat.{ℕ, suc, _+_, _*_, _/_, _%_, _≤_, _<_}
+use native.Mathlib.Nat.{div-add-mod, mod-lt, mul-le-mul-left, mul-pos, mul-le-mul-right, div-le-self, mul-div-le}
+use native.Mathlib.Omega.{arith, by-contra}
+use lib.IntN.{ℤ, pos, negsuc, negℤ, natAbs, _+ℤ_, _-ℤ_, _*ℤ_}
+use lib.Signed.{_≤ℤ_, _<ℤ_, shrZ, quotZ, remZ, ltZ, ≤ℤ-refl}
+use Rattle.arithmetic.specs.Rounding.{floor, rnd, clamp, least, largest}
+use Rattle.arithmetic.specs.IntegerLaws.{ints, posints, zarith}
+use Rattle.arithmetic.specs.OrderLaws.{bounds, mul-le, <ℤ-≤ℤ, ≤ℤ-antisym, abs-mul, abs-neg, abs-is, ltZ-true, ltZ-false}
+
+-- ---- floor
+-- q is a/b rounded down: b q ≤ a < b q + b
+pub record Floor (a : ℤ) (b : ℕ) (q : ℤ) : Type 0 where
+  pub low : (pos b *ℤ q) ≤ℤ a
+  pub high : a <ℤ (pos b *ℤ q +ℤ pos b)
+
+pub floor-is : (a : ℤ) {b : ℕ} → 0 < b → Floor a b (floor a b)
+unfolding floor
+floor-is (pos a) {b} h =
+    let m = mod-lt a h in
+    record { low = simp ints (omega (arith, div-add-mod a b)); high = simp ints (omega (arith, div-add-mod a b)) }
+floor-is (negsuc a) {b} h =
+    let m = mod-lt a h in
+    record { low = simp ints (omega (arith, div-add-mod a b)); high = simp ints (omega (arith, div-add-mod a b)) }
+
+-- a smaller number's floor is not above a larger one's
+below : {a c : ℤ} {b : ℕ} {q r : ℤ} → a ≤ℤ c → Floor a b q → Floor c b r → q ≤ℤ r
+below {a} {c} {b} {q} {r} l f g =
+    ⊎-elim
+    (λ (h : r <ℤ q).
+    let k : (r +ℤ pos 1) ≤ℤ q = simp ints (omega zarith) in
+    absurd (omega (arith, simp ints at l, simp ints at (mul-le b k), simp ints at (f .low), simp ints at (g .high))))
+    (λ h. h)
+    (<ℤ-≤ℤ r q)
+
+pub floor-unique : {a : ℤ} {b : ℕ} {q r : ℤ} → Floor a b q → Floor a b r → q ≡ r
+floor-unique {a} f g = ≤ℤ-antisym (below (≤ℤ-refl a) f g) (below (≤ℤ-refl a) g f)
+
+-- the machine's shift to the right
+pub floor-shr : (a : ℤ) (b : ℕ) → shrZ a b ≡ floor a b
+unfolding floor
+floor-shr (pos a) b = refl
+floor-shr (negsuc a) b = refl
+
+-- the machine's quotient cuts toward zero: where its remainder is negative it is one more than the floor
+pub quot-less : (a : ℤ) {d : ℕ} → 0 < d → ltZ (remZ a (pos d)) (pos 0) ≡ true → quotZ a (pos d) -ℤ pos 1 ≡ floor a d
+quot-less (pos a) {d} p h = absurd (omega (arith, simp ints at (ltZ-true (pos (a % d)) (pos 0) h)))
+quot-less (negsuc a) {d} p h =
+    let r = simp ints at (ltZ-true (negℤ (pos (suc a % d))) (pos 0) h) in
+    let m = mod-lt (suc a) p in
+    floor-unique
+    (record { low = simp ints (omega (arith, div-add-mod (suc a) d)); high = simp ints (omega (arith, div-add-mod (suc a) d)) })
+    (floor-is (negsuc a) p)
+
+pub quot-same : (a : ℤ) {d : ℕ} → 0 < d → ltZ (remZ a (pos d)) (pos 0) ≡ false → quotZ a (pos d) ≡ floor a d
+unfolding floor
+quot-same (pos a) {d} p h = refl
+quot-same (negsuc a) {d} p h =
+    let r = simp ints at (ltZ-false (negℤ (pos (suc a % d))) (pos 0) h) in
+    floor-unique
+    (record { low = simp ints (omega (arith, div-add-mod (suc a) d)); high = simp ints (omega (arith, div-add-mod (suc a) d)) })
+    (floor-is (negsuc a) p)
+
+pub quot-abs : (a : ℤ) (d : ℕ) → natAbs (quotZ a (pos d)) ≤ natAbs a
+quot-abs (pos a) d = div-le-self a d
+quot-abs (negsuc a) d = rw (abs-neg (pos (suc a / d))) (div-le-self (suc a) d)
+
+pub rem-abs : (a : ℤ) {d : ℕ} → 0 < d → natAbs (remZ a (pos d)) < d
+rem-abs (pos a) {d} p = mod-lt a p
+rem-abs (negsuc a) {d} p = rw (abs-neg (pos (suc a % d))) (mod-lt (suc a) p)
+
+pub floor-abs : (a : ℤ) (b : ℕ) → natAbs (floor a b) ≤ natAbs a
+unfolding floor
+floor-abs (pos a) b = div-le-self a b
+floor-abs (negsuc a) b = omega (arith, div-le-self a b)
+
+-- a floor by 2 or more halves the range
+pub floor-half : (a : ℤ) {b n : ℕ} → 2 ≤ b → natAbs a ≤ 2 * n → natAbs (floor a b) ≤ n
+unfolding floor
+floor-half (pos a) {b} {n} p h = omega (arith, mul-div-le a b, mul-le-mul-right (a / b) p)
+floor-half (negsuc a) {b} {n} p h = omega (arith, mul-div-le a b, mul-le-mul-right (a / b) p)
+
+-- a floor of a floor is one floor, and a multiple of b comes out of it: (floor(a/b) + c) / m is (a + b c) / (b m), rounded down
+pub floor-floor : (a c : ℤ) {b m : ℕ} → 0 < b → 0 < m → 0 < b * m → floor (floor a b +ℤ c) m ≡ floor (a +ℤ pos b *ℤ c) (b * m)
+floor-floor a c {b} {m} p q r = floor-unique (twice a c b m (floor a b) (floor (floor a b +ℤ c) m) (floor-is a p) (floor-is (floor a b +ℤ c) q)) (floor-is (a +ℤ pos b *ℤ c) r)
+  where
+    twice : (a c : ℤ) (b m : ℕ) (f g : ℤ) → Floor a b f → Floor (f +ℤ c) m g → Floor (a +ℤ pos b *ℤ c) (b * m) g
+    twice a c b m f g F G =
+        let up : ((f +ℤ c) +ℤ pos 1) ≤ℤ (pos m *ℤ g +ℤ pos m) = simp ints (omega (arith, simp ints at (G .high))) in
+        record {
+          low = simp posints (omega (arith, simp posints at (F .low), simp posints at (mul-le b (G .low))));
+          high = simp posints (omega (arith, simp posints at (F .high), simp posints at (mul-le b up)));
+        }
+
+-- ---- rnd, for every b above 0, even or odd
+pub rnd-near : (a : ℤ) {b : ℕ} → 0 < b → natAbs (pos b *ℤ rnd a b -ℤ a) ≤ b / 2
+unfolding rnd
+rnd-near a {b} p =
+    let f = floor-is (a +ℤ pos (b / 2)) p in
+    simp bounds (omega (arith, simp ints at (f .low), simp ints at (f .high)))
+
+pub rnd-mono : {a c : ℤ} {b : ℕ} → 0 < b → a ≤ℤ c → rnd a b ≤ℤ rnd c b
+unfolding rnd
+rnd-mono {a} {c} {b} p h = below (simp ints (omega zarith)) (floor-is (a +ℤ pos (b / 2)) p) (floor-is (c +ℤ pos (b / 2)) p)
+
+pub rnd-exact : (q : ℤ) {b : ℕ} → 0 < b → rnd (pos b *ℤ q) b ≡ q
+unfolding rnd
+rnd-exact q {b} p = floor-unique (floor-is (pos b *ℤ q +ℤ pos (b / 2)) p) (record { low = simp posints (omega arith); high = simp posints (omega arith) })
+
+-- rounding by 2 h m, after a floor by h: the half, h m, comes out as m
+pub rnd-after : (a : ℤ) (h m : ℕ) → 0 < h → 0 < m → floor (floor a h +ℤ pos m) (2 * m) ≡ rnd a (h * (2 * m))
+unfolding rnd
+rnd-after a h m p q =
+    let half : h * (2 * m) / 2 ≡ h * m = omega arith in
+    rw half (floor-floor a (pos m) {b = h} {m = 2 * m} p (omega arith) (mul-pos p (omega arith)))
+
+-- sizes
+pub rnd-abs : (a : ℤ) {b : ℕ} → 0 < b → b * natAbs (rnd a b) ≤ natAbs a + b / 2
+rnd-abs a {b} p =
+    let k : natAbs (pos b *ℤ rnd a b) ≤ natAbs a + b / 2 = simp bounds (omega (arith, simp bounds at (rnd-near a p), abs-is a)) in
+    rw abs-mul at k
+
+-- a size that is a multiple of b
+pub rnd-le : (a : ℤ) {b n : ℕ} → 0 < b → natAbs a ≤ b * n → natAbs (rnd a b) ≤ n
+rnd-le a {b} {n} p h = by-contra (natAbs (rnd a b)) n (λ q. omega (arith, rnd-abs a p, mul-le-mul-left b q))
+
+-- ---- clamp
+-- s is a sample
+pub record Sample (s : ℤ) : Type 0 where
+  pub low : least ≤ℤ s
+  pub high : s ≤ℤ largest
+
+pub sample-abs : {s : ℤ} → Sample s → natAbs s ≤ 32768
+sample-abs {s} S = simp bounds (omega (arith, simp ints at (S .low), simp ints at (S .high)))
+
+module _ (z : ℤ) where
+  pub clamp-low : ltZ z least ≡ true → clamp z ≡ least
+  unfolding clamp
+  clamp-low h = rw h
+
+  pub clamp-high : ltZ z least ≡ false → ltZ largest z ≡ true → clamp z ≡ largest
+  unfolding clamp
+  clamp-high h k = rw (h, k)
+
+  pub clamp-between : ltZ z least ≡ false → ltZ largest z ≡ false → clamp z ≡ z
+  unfolding clamp
+  clamp-between h k = rw (h, k)
+
+  -- by the three cases
+  by-range : (P : ℤ → Type 0) → (z <ℤ least → P least) → (largest <ℤ z → P largest) → (Sample z → P z) → P (clamp z)
+  by-range P f g h = go (ltZ z least) (ltZ largest z) refl refl
+    where
+      go : (a b : Bool) → ltZ z least ≡ a → ltZ largest z ≡ b → P (clamp z)
+      go true b e k = rw (clamp-low e) (f (ltZ-true z least e))
+      go false true e k = rw (clamp-high e k) (g (ltZ-true largest z k))
+      go false false e k = rw (clamp-between e k) (h (record { low = ltZ-false z least e; high = ltZ-false largest z k }))
+
+  pub clamp-sample : Sample (clamp z)
+  clamp-sample = by-range Sample
+      (λ h. record { low = simp ints (omega arith); high = simp ints (omega arith) })
+      (λ h. record { low = simp ints (omega arith); high = simp ints (omega arith) })
+      (λ h. h)
+
+  -- clamping brings nothing away from a sample
+  pub clamp-near : (s : ℤ) (d : ℕ) → Sample s → natAbs (z -ℤ s) ≤ d → natAbs (clamp z -ℤ s) ≤ d
+  clamp-near s d S n = by-range (λ q. natAbs (q -ℤ s) ≤ d)
+      (λ h. simp bounds (omega (arith, simp ints at h, simp ints at (S .low), simp ints at (S .high), simp bounds at n)))
+      (λ h. simp bounds (omega (arith, simp ints at h, simp ints at (S .low), simp ints at (S .high), simp bounds at n)))
+      (λ h. n)

@@ -1,0 +1,76 @@
+-- Laws of computed tests: a test that the checker computes over a whole table, as the rule at each entry.
+use mathlib.Core.Path.{_≡_, refl, ap}
+use mathlib.Core.Bool.{Bool, true, false, cond}
+use mathlib.Core.List.{List, [], _∷_}
+use Prim.Native.Nat.{ℕ, zero, suc, _≤_, _<_}
+use native.Mathlib.Nat.{le-refl, le-of-suc-le-suc, not-suc-le-zero}
+use native.Mathlib.Omega.{arith}
+use native.Mathlib.Decide.{decLt}
+use lib.Dec.{T, leb, le→leb, leb→le, eqb, eqb→eq}
+use lib.IntN.{ℤ, pos, negsuc}
+use lib.ListN.{length, getD}
+use Rattle.arithmetic.specs.Lists.{all, every}
+
+-- both of two tests
+pub both-left : (a b : Bool) → T (cond a b false) → T a
+both-left true b t = tt
+both-left false b t = t
+
+pub both-right : (a b : Bool) → T (cond a b false) → T b
+both-right true b t = t
+both-right false b t = absurd t
+
+pub both-make : (a b : Bool) → T a → T b → T (cond a b false)
+both-make true b s t = t
+both-make false b s t = s
+
+-- two whole numbers are the same
+unfoldable pub same : ℤ → ℤ → Bool
+same (pos a) (pos b) = eqb a b
+same (pos a) (negsuc b) = false
+same (negsuc a) (pos b) = false
+same (negsuc a) (negsuc b) = eqb a b
+
+pub same-is : (a b : ℤ) → T (same a b) → a ≡ b
+unfolding same
+same-is (pos a) (pos b) t = ap pos (eqb→eq a b t)
+same-is (pos a) (negsuc b) t = absurd t
+same-is (negsuc a) (pos b) t = absurd t
+same-is (negsuc a) (negsuc b) t = ap negsuc (eqb→eq a b t)
+
+-- a choice by a test that is known
+pub cond-yes : {A : Type 0} (b : Bool) (x y : A) → T b → cond b x y ≡ x
+cond-yes true x y t = refl
+cond-yes false x y t = absurd t
+
+pub cond-no : {A : Type 0} (b : Bool) (x y : A) → ¬ T b → cond b x y ≡ y
+cond-no true x y n = absurd (n tt)
+cond-no false x y n = refl
+
+pub cond-le : {A : Type 0} (a b : ℕ) (x y : A) → a ≤ b → cond (leb a b) x y ≡ x
+cond-le a b x y p = cond-yes (leb a b) x y (le→leb a b p)
+
+pub cond-gt : {A : Type 0} (a b : ℕ) (x y : A) → b < a → cond (leb a b) x y ≡ y
+cond-gt a b x y p = cond-no (leb a b) x y (λ t. let h = leb→le a b t in omega arith)
+
+-- of every number below n
+pub all-at : (n : ℕ) (p : ℕ → Bool) → T (all n p) → (i : ℕ) → i < n → T (p i)
+unfolding all
+all-at zero p t i h = absurd (not-suc-le-zero h)
+all-at (suc n) p t i h = go (decLt i n) (all-at n p (both-left (all n p) (p n) t)) (both-right (all n p) (p n) t)
+  where
+    go : Dec (i < n) → ((i : ℕ) → i < n → T (p i)) → T (p n) → T (p i)
+    go (yes q) ih last = ih i q
+    go (no q) ih last = let e : i ≡ n = omega arith in rw e last
+
+pub all-make : (n : ℕ) (p : ℕ → Bool) → ((i : ℕ) → i < n → T (p i)) → T (all n p)
+unfolding all
+all-make zero p h = tt
+all-make (suc n) p h = both-make (all n p) (p n) (all-make n p (λ i q. h i (omega arith))) (h n (le-refl (suc n)))
+
+-- of every entry of a list
+pub every-at : {A : Type 0} (p : A → Bool) (d : A) (xs : List A) → T (every p xs) → (k : ℕ) → k < length xs → T (p (getD xs k d))
+unfolding every
+every-at p d [] t k h = absurd (not-suc-le-zero h)
+every-at p d (x ∷ xs) t zero h = both-left (p x) (every p xs) t
+every-at p d (x ∷ xs) t (suc k) h = every-at p d xs (both-right (p x) (every p xs) t) k (le-of-suc-le-suc h)

@@ -1,0 +1,58 @@
+-- `shifts` is safe and ends: the loop counts to the number of sums.
+use Prim.Native.Nat.{_-_, _≤_}
+use borrow.Author.Needs.{needs}
+use Rattle.check_values.proofs.shifts.Statement.{statement}
+use Rattle.check_values.proofs.shifts.Tie as tie
+
+abbrev Inv-loop : tie.InvT-loop
+Inv-loop k i₀ t4 i = i ≤ 68
+
+abbrev μ-loop : tie.MeasureT-loop
+μ-loop k i₀ t4 i = 68 - i
+
+loop-holds : tie.Need-loop-holds Inv-loop μ-loop
+loop-holds c = search needs
+
+mul-a : tie.Need-mul-a Inv-loop μ-loop
+mul-a c = search needs
+
+array-copy-out-a : tie.Need-array-copy-out-a Inv-loop μ-loop
+array-copy-out-a c = search needs
+
+slice-aggregate-line : tie.Need-slice-aggregate-line Inv-loop μ-loop
+slice-aggregate-line c = search needs
+
+rnd-shift-requires : tie.Need-rnd-shift-requires Inv-loop μ-loop
+rnd-shift-requires c κs = search needs
+
+line-requires : tie.Need-line-requires Inv-loop μ-loop
+line-requires c κs = search needs
+
+add-i : tie.Need-add-i Inv-loop μ-loop
+add-i c = search needs
+
+loop-less : tie.Need-loop-less Inv-loop μ-loop
+loop-less c = search needs
+
+loop-again : tie.Need-loop-again Inv-loop μ-loop
+loop-again c = search needs
+
+returns : tie.Need-returns Inv-loop μ-loop
+returns c = search needs
+
+pub shifts-spec : {M : Type 1} → statement M
+shifts-spec =
+    tie.close
+    (tie.spec
+    Inv-loop
+    μ-loop
+    loop-holds
+    mul-a
+    array-copy-out-a
+    slice-aggregate-line
+    rnd-shift-requires
+    line-requires
+    add-i
+    loop-less
+    loop-again
+    returns)

@@ -1,0 +1,58 @@
+-- `short_row` is safe and ends: the loop counts to N/6.
+use Prim.Native.Nat.{_-_, _/_, _≤_}
+use borrow.Author.Needs.{needs}
+use Rattle.check_values.proofs.short_row.Statement.{statement}
+use Rattle.check_values.proofs.short_row.Tie as tie
+
+abbrev Inv-loop : tie.InvT-loop
+Inv-loop n i k₀ k-end k = k ≤ n / 6
+
+abbrev μ-loop : tie.MeasureT-loop
+μ-loop n i k₀ k-end k = n / 6 - k
+
+slice-aggregate-word : tie.Need-slice-aggregate-word Inv-loop μ-loop
+slice-aggregate-word c = search needs
+
+word-requires : tie.Need-word-requires Inv-loop μ-loop
+word-requires c κs = search needs
+
+loop-holds : tie.Need-loop-holds Inv-loop μ-loop
+loop-holds c = search needs
+
+short-kernel-requires : tie.Need-short-kernel-requires Inv-loop μ-loop
+short-kernel-requires c κs = search needs
+
+field-requires : tie.Need-field-requires Inv-loop μ-loop
+field-requires c κs = search needs
+
+add-k : tie.Need-add-k Inv-loop μ-loop
+add-k c = search needs
+
+loop-less : tie.Need-loop-less Inv-loop μ-loop
+loop-less c = search needs
+
+loop-again : tie.Need-loop-again Inv-loop μ-loop
+loop-again c = search needs
+
+end-requires : tie.Need-end-requires Inv-loop μ-loop
+end-requires c κs = search needs
+
+returns : tie.Need-returns Inv-loop μ-loop
+returns c = search needs
+
+pub short-row-spec : {M : Type 1} → statement M
+short-row-spec =
+    tie.close
+    (tie.spec
+    Inv-loop
+    μ-loop
+    slice-aggregate-word
+    word-requires
+    loop-holds
+    short-kernel-requires
+    field-requires
+    add-k
+    loop-less
+    loop-again
+    end-requires
+    returns)

@@ -1,0 +1,58 @@
+-- `windows` is safe and ends: the loop counts to N.
+use Prim.Native.Nat.{_-_, _≤_}
+use borrow.Author.Needs.{needs}
+use Rattle.check_values.proofs.windows.Statement.{statement}
+use Rattle.check_values.proofs.windows.Tie as tie
+
+abbrev Inv-loop : tie.InvT-loop
+Inv-loop n i₀ i = i ≤ n
+
+abbrev μ-loop : tie.MeasureT-loop
+μ-loop n i₀ i = n - i
+
+slice-aggregate-word : tie.Need-slice-aggregate-word Inv-loop μ-loop
+slice-aggregate-word c = search needs
+
+word-requires : tie.Need-word-requires Inv-loop μ-loop
+word-requires c κs = search needs
+
+loop-holds : tie.Need-loop-holds Inv-loop μ-loop
+loop-holds c = search needs
+
+window-requires : tie.Need-window-requires Inv-loop μ-loop
+window-requires c κs = search needs
+
+field-requires : tie.Need-field-requires Inv-loop μ-loop
+field-requires c κs = search needs
+
+add-i : tie.Need-add-i Inv-loop μ-loop
+add-i c = search needs
+
+loop-less : tie.Need-loop-less Inv-loop μ-loop
+loop-less c = search needs
+
+loop-again : tie.Need-loop-again Inv-loop μ-loop
+loop-again c = search needs
+
+end-requires : tie.Need-end-requires Inv-loop μ-loop
+end-requires c κs = search needs
+
+returns : tie.Need-returns Inv-loop μ-loop
+returns c = search needs
+
+pub windows-spec : {M : Type 1} → statement M
+windows-spec =
+    tie.close
+    (tie.spec
+    Inv-loop
+    μ-loop
+    slice-aggregate-word
+    word-requires
+    loop-holds
+    window-requires
+    field-requires
+    add-i
+    loop-less
+    loop-again
+    end-requires
+    returns)

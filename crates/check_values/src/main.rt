@@ -1,0 +1,199 @@
+// The table, the window, the kernels and the roundings at chosen places, compared with what vectors/values.py makes from the definitions.
+ghost use Prim.Native.Nat.{_≤_, _<_, _/_, _^_};
+ghost use lib.Dec.{T};
+ghost use Rattle.cosine.specs.Kernels.{tabled};
+
+// Sums around zero, halves of either sign of every divisor, one beside them, and the ends of the type.
+const COUNT: usize = 68;
+
+const SUMS: [i64; COUNT] = [
+    0,
+    1,
+    -1,
+    131071,
+    131072,
+    131073,
+    -131073,
+    -131072,
+    -131071,
+    393216,
+    -393216,
+    33554431,
+    33554432,
+    33554433,
+    -33554433,
+    -33554432,
+    -33554431,
+    100663296,
+    -100663296,
+    134217727,
+    134217728,
+    134217729,
+    -134217729,
+    -134217728,
+    -134217727,
+    402653184,
+    -402653184,
+    268435455,
+    268435456,
+    268435457,
+    -268435457,
+    -268435456,
+    -268435455,
+    805306368,
+    -805306368,
+    6442450943,
+    6442450944,
+    6442450945,
+    -6442450945,
+    -6442450944,
+    -6442450943,
+    12884901887,
+    12884901888,
+    12884901889,
+    -12884901889,
+    -12884901888,
+    -12884901887,
+    19327352831,
+    19327352832,
+    19327352833,
+    -19327352833,
+    -19327352832,
+    -19327352831,
+    38654705663,
+    38654705664,
+    38654705665,
+    -38654705665,
+    -38654705664,
+    -38654705663,
+    32767,
+    32768,
+    -32768,
+    -32769,
+    1234567890123456789,
+    -1234567890123456789,
+    9223372036854775807,
+    -9223372036854775807,
+    -9223372036854775808,
+];
+
+fn line(word: &[u8], of: usize, a: i64, value: i64) {
+    report::word(word);
+    report::count(of);
+    report::field(a);
+    report::field(value);
+    report::end();
+}
+
+fn shifts(k: u32)
+    requires { ⌜ (2 ≤ k) × (k < 63) ⌝ }
+{
+    for i in 0..COUNT {
+        let a = SUMS[i];
+        line(b"shift", k as usize, a, arithmetic::rnd_shift(a, k));
+    }
+}
+
+fn scales(n: usize)
+    requires { ⌜ (0 < n) × (n < 2 ^ 16) ⌝ }
+{
+    for i in 0..COUNT {
+        let a = SUMS[i];
+        line(b"scale", n, a, arithmetic::rnd_scaled(a, n));
+    }
+}
+
+fn clamps() {
+    for i in 0..COUNT {
+        let a = SUMS[i];
+        line(b"clamp", i, a, arithmetic::clamp(a) as i64);
+    }
+}
+
+fn cosines() {
+    for t in 0..600 {
+        report::word(b"C");
+        report::count(t);
+        report::field(cosine::cosine(t));
+        report::end();
+    }
+}
+
+fn windows(n: usize)
+    requires { ⌜ T (tabled n) ⌝ }
+{
+    report::word(b"W");
+    for i in 0..n {
+        report::field(cosine::window(n, i));
+    }
+    report::end();
+}
+
+fn kernel_row(n: usize, i: usize)
+    requires { ⌜ T (tabled n) × (i < n) ⌝ }
+{
+    report::word(b"K");
+    for k in 0..n / 2 {
+        report::field(cosine::kernel(n, i, k));
+    }
+    report::end();
+}
+
+fn kernels(n: usize)
+    requires { ⌜ T (tabled n) ⌝ }
+{
+    for i in 0..n {
+        kernel_row(n, i);
+    }
+}
+
+fn short_row(n: usize, i: usize)
+    requires { ⌜ T (tabled n) × (i < n / 3) ⌝ }
+{
+    report::word(b"L");
+    for k in 0..n / 6 {
+        report::field(cosine::short_kernel(n, i, k));
+    }
+    report::end();
+}
+
+fn short_kernels(n: usize)
+    requires { ⌜ T (tabled n) ⌝ }
+{
+    for i in 0..n / 3 {
+        short_row(n, i);
+    }
+}
+
+fn length(n: usize)
+    requires { ⌜ T (tabled n) × (0 < n) × (n < 2 ^ 16) ⌝ }
+{
+    scales(n);
+    windows(n);
+    kernels(n);
+    short_kernels(n);
+}
+
+// Which numbers up to 300 are block lengths.
+fn lengths() {
+    for n in 0..300 {
+        if cosine::is_tabled(n) {
+            report::count(n);
+        }
+    }
+    report::end();
+}
+
+fn main() {
+    lengths();
+    shifts(18);
+    shifts(26);
+    shifts(28);
+    shifts(29);
+    clamps();
+    cosines();
+    length(12);
+    length(24);
+    length(36);
+    length(72);
+}

@@ -1,0 +1,134 @@
+-- Laws of the window and the kernels, with N as a parameter: range, symmetry, and the fold of source 003, equation (41).
+use mathlib.Core.Path.{_≡_, ap}
+use Prim.Native.Nat.{ℕ, _+_, _-_, _*_, _/_, _^_, _≤_, _<_}
+use native.Mathlib.Nat.{mul-le-mul-left}
+use native.Mathlib.Omega.{arith}
+use native.Mathlib.Decide.{decLt}
+use lib.Dec.{T}
+use lib.IntN.{pos, negℤ, natAbs, _-ℤ_, _*ℤ_}
+use lib.Signed.{_≤ℤ_}
+use Rattle.arithmetic.specs.IntegerLaws.{posints}
+use Rattle.cosine.specs.Cosine.{turn, half-turn, quarter, firstQuarter, C}
+use Rattle.cosine.specs.Kernels.{tabled, d, W, rising, falling, K, F, L}
+use Rattle.cosine.specs.TableLaws.{low}
+use Rattle.cosine.specs.CosineLaws.{C-mirror, C-less, C-more, C-same, C-low, C-size}
+use Rattle.cosine.specs.LengthLaws.{Length, length-of}
+
+-- ---- sizes, at any place
+pub W-size : (N n : ℕ) → natAbs (W N n) ≤ 2 ^ 26
+unfolding W
+W-size N n = C-size (pos (d N) *ℤ (pos N -ℤ pos (2 * n + 1)))
+
+pub K-size : (N n k : ℕ) → natAbs (K N n k) ≤ 2 ^ 26
+unfolding K
+K-size N n k = C-size (pos (d N * (2 * n + 1 + N / 2) * (2 * k + 1)))
+
+pub F-size : (N j k : ℕ) → natAbs (F N j k) ≤ 2 ^ 26
+unfolding F
+F-size N j k = C-size (pos (d N * (2 * j + 1) * (2 * k + 1)))
+
+pub L-size : (N n k : ℕ) → natAbs (L N n k) ≤ 2 ^ 26
+unfolding L
+L-size N n k = C-size (pos (3 * d N * (2 * n + 1 + N / 6) * (2 * k + 1)))
+
+-- ---- the folded kernel is symmetric
+pub F-symmetric : (N j k : ℕ) → F N j k ≡ F N k j
+unfolding F
+F-symmetric N j k = ap (λ (t : ℕ). C (pos t)) (swap (d N) (2 * j + 1) (2 * k + 1))
+  where
+    swap : (d a b : ℕ) → d * a * b ≡ d * b * a
+    swap d a b = omega arith
+
+module _ (N : ℕ) (tab : T (tabled N)) where
+  len : Length N
+  len = length-of N tab
+
+  -- two numbers of parts that make two blocks: their angles make an odd number of half turns
+  meet : (a b k : ℕ) → a + b ≡ 2 * N → d N * a * (2 * k + 1) + d N * b * (2 * k + 1) ≡ half-turn + turn * k
+  meet a b k e =
+      let p : d N * (a + b) ≡ half-turn = rw e (double (d N) N (len .parts)) in
+      go (d N) a b k p
+    where
+      double : (d n : ℕ) → d * n ≡ quarter → d * (2 * n) ≡ half-turn
+      double d n h = omega arith
+
+      go : (d a b k : ℕ) → d * (a + b) ≡ half-turn → d * a * (2 * k + 1) + d * b * (2 * k + 1) ≡ half-turn + turn * k
+      go d a b k h = omega (arith, ap (λ (x : ℕ). x * (2 * k + 1)) h)
+
+  -- ---- the fold: N/4 is M/2
+  pub fold-first : (n k : ℕ) → n < N / 4 → K N n k ≡ F N (n + N / 4) k
+  unfolding K F
+  fold-first n k p = ap (λ (t : ℕ). C (pos (d N * t * (2 * k + 1)))) (omega (arith, len .twelve))
+
+  pub fold-middle : (n k : ℕ) → N / 4 ≤ n → n < 3 * (N / 4) → K N n k ≡ negℤ (F N (3 * (N / 4) - 1 - n) k)
+  unfolding K F
+  fold-middle n k p q =
+      C-less (pos (d N * (2 * n + 1 + N / 2) * (2 * k + 1))) (pos (d N * (2 * (3 * (N / 4) - 1 - n) + 1) * (2 * k + 1))) (pos k)
+      (ap pos (meet (2 * n + 1 + N / 2) (2 * (3 * (N / 4) - 1 - n) + 1) k (omega (arith, len .twelve))))
+
+  pub fold-last : (n k : ℕ) → 3 * (N / 4) ≤ n → K N n k ≡ negℤ (F N (n - 3 * (N / 4)) k)
+  unfolding K F
+  fold-last n k p =
+      let e : 2 * n + 1 + N / 2 ≡ 2 * (n - 3 * (N / 4)) + 1 + 2 * N = omega (arith, len .twelve) in
+      C-more (pos (d N * (2 * n + 1 + N / 2) * (2 * k + 1))) (pos (d N * (2 * (n - 3 * (N / 4)) + 1) * (2 * k + 1))) (pos k)
+      (ap pos (rw e (go (d N) N (2 * (n - 3 * (N / 4)) + 1) k (len .parts))))
+    where
+      go : (d N b k : ℕ) → d * N ≡ quarter → d * (b + 2 * N) * (2 * k + 1) ≡ d * b * (2 * k + 1) + half-turn + turn * k
+      go d N b k h = omega (arith, ap (λ (x : ℕ). x * (2 * k + 1)) h)
+
+  -- the kernel's mirrors: odd on the first hop, even on the second
+  pub K-first-hop : (n k : ℕ) → n < N / 2 → K N (N / 2 - 1 - n) k ≡ negℤ (K N n k)
+  unfolding K
+  K-first-hop n k p =
+      C-less (pos (d N * (2 * (N / 2 - 1 - n) + 1 + N / 2) * (2 * k + 1))) (pos (d N * (2 * n + 1 + N / 2) * (2 * k + 1))) (pos k)
+      (ap pos (meet (2 * (N / 2 - 1 - n) + 1 + N / 2) (2 * n + 1 + N / 2) k (omega (arith, len .twelve))))
+
+  pub K-second-hop : (n k : ℕ) → N / 2 ≤ n → n < N → K N (3 * (N / 2) - 1 - n) k ≡ K N n k
+  unfolding K
+  K-second-hop n k p q =
+      C-same (pos (d N * (2 * (3 * (N / 2) - 1 - n) + 1 + N / 2) * (2 * k + 1))) (pos (d N * (2 * n + 1 + N / 2) * (2 * k + 1))) (pos (2 * k + 1))
+      (ap pos (go (d N) (2 * (3 * (N / 2) - 1 - n) + 1 + N / 2) (2 * n + 1 + N / 2) N (2 * k + 1) (len .parts) (omega (arith, len .twelve))))
+    where
+      go : (d a b n o : ℕ) → d * n ≡ quarter → a + b ≡ 4 * n → d * a * o + d * b * o ≡ turn * o
+      go d a b n o h e = omega (arith, ap (λ (x : ℕ). x * o) h, ap (λ (x : ℕ). d * x * o) e)
+
+  -- ---- the window
+  -- d times at most N parts lie in the first quarter
+  part≤ : (a : ℕ) → a ≤ N → d N * a ≤ quarter
+  part≤ a p = omega (arith, mul-le-mul-left (d N) p, len .parts)
+
+  -- W on the first hop and on the second
+  W-first : (n : ℕ) → n < N / 2 → W N n ≡ firstQuarter (d N * (N - (2 * n + 1)))
+  unfolding W
+  W-first n p = rw (arg (d N) N (2 * n + 1) (omega arith)) (C-low (d N * (N - (2 * n + 1))) (part≤ (N - (2 * n + 1)) (omega arith)))
+    where
+      arg : (d a b : ℕ) → b ≤ a → pos d *ℤ (pos a -ℤ pos b) ≡ pos (d * (a - b))
+      arg d a b p = let e : a - b + b ≡ a = omega arith in simp posints (omega (arith, ap (λ (x : ℕ). d * x) e))
+
+  pub W-symmetric : (n : ℕ) → n < N → W N (N - 1 - n) ≡ W N n
+  unfolding W
+  W-symmetric n p =
+      let e : pos (d N) *ℤ (pos N -ℤ pos (2 * (N - 1 - n) + 1)) ≡ negℤ (pos (d N) *ℤ (pos N -ℤ pos (2 * n + 1))) = turned (d N) N (2 * (N - 1 - n) + 1) (2 * n + 1) (omega arith) in
+      rw e (C-mirror (pos (d N) *ℤ (pos N -ℤ pos (2 * n + 1))))
+    where
+      turned : (d N a b : ℕ) → a + b ≡ N + N → pos d *ℤ (pos N -ℤ pos a) ≡ negℤ (pos d *ℤ (pos N -ℤ pos b))
+      turned d N a b h = simp posints (omega (arith, ap (λ (x : ℕ). d * x) h))
+
+  -- the rising half is never negative, and the falling half is its mirror
+  pub rising-low : (n : ℕ) → n < N / 2 → pos 0 ≤ℤ rising N n
+  unfolding rising
+  rising-low n p = rw (W-first n p) (low (d N * (N - (2 * n + 1))) (part≤ (N - (2 * n + 1)) (omega arith)))
+
+  pub falling-mirror : (n : ℕ) → n < N / 2 → falling N n ≡ rising N (N / 2 - 1 - n)
+  unfolding falling rising
+  falling-mirror n p =
+      let e : N - 1 - (N / 2 - 1 - n) ≡ N / 2 + n = omega (arith, len .twelve) in
+      rw e at (W-symmetric (N / 2 - 1 - n) (omega arith))
+
+  pub W-low : (n : ℕ) → n < N → pos 0 ≤ℤ W N n
+  unfolding rising
+  W-low n p = go (decLt n (N / 2))
+    where
+      go : Dec (n < N / 2) → pos 0 ≤ℤ W N n
+      go (yes q) = rising-low n q
+      go (no q) = rw (← (W-symmetric n p)) (rising-low (N - 1 - n) (omega (arith, len .twelve)))

@@ -1,0 +1,48 @@
+-- The block lengths, the window W and the kernels K and L: definitions. Document 01, 'What the recorder holds',
+-- 'Rounding and the cosine table' and 'Short route'.
+use mathlib.Core.Bool.{Bool, not}
+use mathlib.Core.List.{List, [], _∷_}
+use Prim.Native.Nat.{ℕ, _+_, _*_, _/_}
+use lib.Dec.{eqb}
+use lib.IntN.{ℤ, pos, _-ℤ_, _*ℤ_}
+use Rattle.arithmetic.specs.Lists.{every}
+use Rattle.cosine.specs.Cosine.{quarter, C}
+
+-- N is the block length: 12, 24, 36 or 72. M = N/2 is a hop, document 01's term
+unfoldable pub lengths : List ℕ
+lengths = 12 ∷ 24 ∷ 36 ∷ 72 ∷ []
+
+-- N is one of them
+unfoldable pub tabled : ℕ → Bool
+tabled N = not (every (λ L. not (eqb N L)) lengths)
+
+-- d = 72/N
+abbrev pub d : ℕ → ℕ
+d N = quarter / N
+
+-- the window W(n) = C(d × (N - 2n - 1)), the sine window
+unfoldable pub W : ℕ → ℕ → ℤ
+W N n = C (pos (d N) *ℤ (pos N -ℤ pos (2 * n + 1)))
+
+-- its rising half, and its falling half: W(M) .. W(N-1)
+unfoldable pub rising : ℕ → ℕ → ℤ
+rising N n = W N n
+
+unfoldable pub falling : ℕ → ℕ → ℤ
+falling N n = W N (N / 2 + n)
+
+-- the kernel K(n,k) = C(d × (2n + 1 + N/2) × (2k + 1)), n from 0 to N - 1, k from 0 to M - 1
+unfoldable pub K : ℕ → ℕ → ℕ → ℤ
+K N n k = C (pos (d N * (2 * n + 1 + N / 2) * (2 * k + 1)))
+
+-- the folded kernel F(j,k) = C(d × (2j + 1) × (2k + 1)), j and k from 0 to M - 1: source 003, equation (41)
+unfoldable pub F : ℕ → ℕ → ℕ → ℤ
+F N j k = C (pos (d N * (2 * j + 1) * (2 * k + 1)))
+
+-- the short kernel L(n,k) = C(3d × (2n + 1 + N/6) × (2k + 1)), n from 0 to N/3 - 1, k from 0 to N/6 - 1
+unfoldable pub L : ℕ → ℕ → ℕ → ℤ
+L N n k = C (pos (3 * d N * (2 * n + 1 + N / 6) * (2 * k + 1)))
+
+-- the angle s = 2d(2n + 1) of the short route
+unfoldable pub s : ℕ → ℕ → ℕ
+s N n = 2 * d N * (2 * n + 1)

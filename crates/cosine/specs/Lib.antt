@@ -1,0 +1,10 @@
+pub mod Cosine
+pub mod Kernels
+pub mod TableLaws
+pub mod CosineLaws
+pub mod LengthLaws
+pub mod KernelLaws
+pub mod PowerLaws
+pub mod PackLaws
+pub mod GramLaws
+pub mod Checked
