@@ -6,7 +6,7 @@ use Prim.Native.Nat.{ℕ, zero, suc, _≤_, _<_}
 use native.Mathlib.Nat.{le-refl, le-of-suc-le-suc, not-suc-le-zero}
 use native.Mathlib.Omega.{arith}
 use native.Mathlib.Decide.{decLt}
-use lib.Dec.{T, leb, le→leb, leb→le, eqb, eqb→eq}
+use lib.Dec.{T, leb, le→leb, leb→le, ltb, lt→ltb, ltb→lt, eqb, eqb→eq}
 use lib.IntN.{ℤ, pos, negsuc}
 use lib.ListN.{length, getD}
 use Rattle.arithmetic.specs.Lists.{all, every}
@@ -52,6 +52,12 @@ cond-le a b x y p = cond-yes (leb a b) x y (le→leb a b p)
 
 pub cond-gt : {A : Type 0} (a b : ℕ) (x y : A) → b < a → cond (leb a b) x y ≡ y
 cond-gt a b x y p = cond-no (leb a b) x y (λ t. let h = leb→le a b t in omega arith)
+
+pub cond-lt : {A : Type 0} (a b : ℕ) (x y : A) → a < b → cond (ltb a b) x y ≡ x
+cond-lt a b x y p = cond-yes (ltb a b) x y (lt→ltb a b p)
+
+pub cond-ge : {A : Type 0} (a b : ℕ) (x y : A) → b ≤ a → cond (ltb a b) x y ≡ y
+cond-ge a b x y p = cond-no (ltb a b) x y (λ t. let h = ltb→lt a b t in omega arith)
 
 -- of every number below n
 pub all-at : (n : ℕ) (p : ℕ → Bool) → T (all n p) → (i : ℕ) → i < n → T (p i)

@@ -1,18 +1,17 @@
--- Laws of the window and the kernels, with N as a parameter: range, symmetry, and the fold of source 003, equation (41).
+-- Laws of the window and the kernels, with N as a parameter over `Part`: range, symmetry, and the fold of source 003, equation (41).
 use mathlib.Core.Path.{_≡_, ap}
 use Prim.Native.Nat.{ℕ, _+_, _-_, _*_, _/_, _^_, _≤_, _<_}
 use native.Mathlib.Nat.{mul-le-mul-left}
 use native.Mathlib.Omega.{arith}
 use native.Mathlib.Decide.{decLt}
-use lib.Dec.{T}
 use lib.IntN.{pos, negℤ, natAbs, _-ℤ_, _*ℤ_}
 use lib.Signed.{_≤ℤ_}
 use Rattle.arithmetic.specs.IntegerLaws.{posints}
 use Rattle.cosine.specs.Cosine.{turn, half-turn, quarter, firstQuarter, C}
-use Rattle.cosine.specs.Kernels.{tabled, d, W, rising, falling, K, F, L}
+use Rattle.cosine.specs.Kernels.{d, W, rising, falling, K, F, L}
 use Rattle.cosine.specs.TableLaws.{low}
 use Rattle.cosine.specs.CosineLaws.{C-mirror, C-less, C-more, C-same, C-low, C-size}
-use Rattle.cosine.specs.LengthLaws.{Length, length-of}
+use Rattle.cosine.specs.LengthLaws.{Part}
 
 -- ---- sizes, at any place
 pub W-size : (N n : ℕ) → natAbs (W N n) ≤ 2 ^ 26
@@ -39,10 +38,7 @@ F-symmetric N j k = ap (λ (t : ℕ). C (pos t)) (swap (d N) (2 * j + 1) (2 * k 
     swap : (d a b : ℕ) → d * a * b ≡ d * b * a
     swap d a b = omega arith
 
-module _ (N : ℕ) (tab : T (tabled N)) where
-  len : Length N
-  len = length-of N tab
-
+module _ (N : ℕ) (len : Part N) where
   -- two numbers of parts that make two blocks: their angles make an odd number of half turns
   meet : (a b k : ℕ) → a + b ≡ 2 * N → d N * a * (2 * k + 1) + d N * b * (2 * k + 1) ≡ half-turn + turn * k
   meet a b k e =
@@ -58,18 +54,18 @@ module _ (N : ℕ) (tab : T (tabled N)) where
   -- ---- the fold: N/4 is M/2
   pub fold-first : (n k : ℕ) → n < N / 4 → K N n k ≡ F N (n + N / 4) k
   unfolding K F
-  fold-first n k p = ap (λ (t : ℕ). C (pos (d N * t * (2 * k + 1)))) (omega (arith, len .twelve))
+  fold-first n k p = ap (λ (t : ℕ). C (pos (d N * t * (2 * k + 1)))) (omega (arith, len .four))
 
   pub fold-middle : (n k : ℕ) → N / 4 ≤ n → n < 3 * (N / 4) → K N n k ≡ negℤ (F N (3 * (N / 4) - 1 - n) k)
   unfolding K F
   fold-middle n k p q =
       C-less (pos (d N * (2 * n + 1 + N / 2) * (2 * k + 1))) (pos (d N * (2 * (3 * (N / 4) - 1 - n) + 1) * (2 * k + 1))) (pos k)
-      (ap pos (meet (2 * n + 1 + N / 2) (2 * (3 * (N / 4) - 1 - n) + 1) k (omega (arith, len .twelve))))
+      (ap pos (meet (2 * n + 1 + N / 2) (2 * (3 * (N / 4) - 1 - n) + 1) k (omega (arith, len .four))))
 
   pub fold-last : (n k : ℕ) → 3 * (N / 4) ≤ n → K N n k ≡ negℤ (F N (n - 3 * (N / 4)) k)
   unfolding K F
   fold-last n k p =
-      let e : 2 * n + 1 + N / 2 ≡ 2 * (n - 3 * (N / 4)) + 1 + 2 * N = omega (arith, len .twelve) in
+      let e : 2 * n + 1 + N / 2 ≡ 2 * (n - 3 * (N / 4)) + 1 + 2 * N = omega (arith, len .four) in
       C-more (pos (d N * (2 * n + 1 + N / 2) * (2 * k + 1))) (pos (d N * (2 * (n - 3 * (N / 4)) + 1) * (2 * k + 1))) (pos k)
       (ap pos (rw e (go (d N) N (2 * (n - 3 * (N / 4)) + 1) k (len .parts))))
     where
@@ -81,13 +77,13 @@ module _ (N : ℕ) (tab : T (tabled N)) where
   unfolding K
   K-first-hop n k p =
       C-less (pos (d N * (2 * (N / 2 - 1 - n) + 1 + N / 2) * (2 * k + 1))) (pos (d N * (2 * n + 1 + N / 2) * (2 * k + 1))) (pos k)
-      (ap pos (meet (2 * (N / 2 - 1 - n) + 1 + N / 2) (2 * n + 1 + N / 2) k (omega (arith, len .twelve))))
+      (ap pos (meet (2 * (N / 2 - 1 - n) + 1 + N / 2) (2 * n + 1 + N / 2) k (omega (arith, len .four))))
 
   pub K-second-hop : (n k : ℕ) → N / 2 ≤ n → n < N → K N (3 * (N / 2) - 1 - n) k ≡ K N n k
   unfolding K
   K-second-hop n k p q =
       C-same (pos (d N * (2 * (3 * (N / 2) - 1 - n) + 1 + N / 2) * (2 * k + 1))) (pos (d N * (2 * n + 1 + N / 2) * (2 * k + 1))) (pos (2 * k + 1))
-      (ap pos (go (d N) (2 * (3 * (N / 2) - 1 - n) + 1 + N / 2) (2 * n + 1 + N / 2) N (2 * k + 1) (len .parts) (omega (arith, len .twelve))))
+      (ap pos (go (d N) (2 * (3 * (N / 2) - 1 - n) + 1 + N / 2) (2 * n + 1 + N / 2) N (2 * k + 1) (len .parts) (omega (arith, len .four))))
     where
       go : (d a b n o : ℕ) → d * n ≡ quarter → a + b ≡ 4 * n → d * a * o + d * b * o ≡ turn * o
       go d a b n o h e = omega (arith, ap (λ (x : ℕ). x * o) h, ap (λ (x : ℕ). d * x * o) e)
@@ -122,7 +118,7 @@ module _ (N : ℕ) (tab : T (tabled N)) where
   pub falling-mirror : (n : ℕ) → n < N / 2 → falling N n ≡ rising N (N / 2 - 1 - n)
   unfolding falling rising
   falling-mirror n p =
-      let e : N - 1 - (N / 2 - 1 - n) ≡ N / 2 + n = omega (arith, len .twelve) in
+      let e : N - 1 - (N / 2 - 1 - n) ≡ N / 2 + n = omega (arith, len .four) in
       rw e at (W-symmetric (N / 2 - 1 - n) (omega arith))
 
   pub W-low : (n : ℕ) → n < N → pos 0 ≤ℤ W N n
@@ -131,4 +127,4 @@ module _ (N : ℕ) (tab : T (tabled N)) where
     where
       go : Dec (n < N / 2) → pos 0 ≤ℤ W N n
       go (yes q) = rising-low n q
-      go (no q) = rw (← (W-symmetric n p)) (rising-low (N - 1 - n) (omega (arith, len .twelve)))
+      go (no q) = rw (← (W-symmetric n p)) (rising-low (N - 1 - n) (omega (arith, len .four)))

@@ -4,6 +4,7 @@ use mathlib.Core.Bool.{Bool, true, false, not, cond}
 use mathlib.Core.List.{List, [], _∷_}
 use Prim.Native.Nat.{ℕ, _*_, _/_, _≤_, _<_}
 use native.Mathlib.Nat.{mul-le-mul, div-le-self, lt-of-le-of-lt}
+use native.Mathlib.Omega.{arith}
 use lib.Dec.{T, lit<, eqb, eqb→eq, leb, leb→le, ltb, ltb→lt}
 use mir.Syntax.{w64}
 use mir.Val.{Fits}
@@ -56,6 +57,30 @@ length-of N h =
       some = ltb→lt 0 N (both-left c e v);
       most = leb→le N quarter (both-right c e v);
     }
+
+-- ---- what the kernel's laws ask of a length: four parts of it, and d of its parts make a quarter turn. A tabled length has it, and its third
+pub record Part (P : ℕ) : Type 0 where
+  pub four : 4 * (P / 4) ≡ P
+  pub parts : d P * P ≡ quarter
+  pub some : 0 < P
+
+pub part-of : (N : ℕ) → T (tabled N) → Part N
+part-of N h =
+    let l = length-of N h in
+    record { four = omega (arith, l .twelve); parts = l .parts; some = l .some }
+
+thirds : ℕ → Bool
+thirds N = eqb (d (N / 3) * (N / 3)) quarter
+
+thirds-test : T (every thirds lengths)
+unfolding every thirds lengths
+thirds-test = tt
+
+pub third-part : (N : ℕ) → T (tabled N) → Part (N / 3)
+unfolding thirds
+third-part N h =
+    let l = length-of N h in
+    record { four = omega (arith, l .twelve); parts = eqb→eq (d (N / 3) * (N / 3)) quarter (of-tabled thirds thirds-test N h); some = omega (arith, l .twelve, l .some) }
 
 -- the products of an angle's factors stay small
 pub d-most : (N : ℕ) → d N ≤ quarter

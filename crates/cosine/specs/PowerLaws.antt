@@ -11,7 +11,7 @@ use Rattle.cosine.specs.Cosine.{reduced, toHalf, toTurn, continued}
 use Rattle.cosine.specs.Kernels.{lengths, tabled, d, W, rising}
 use Rattle.cosine.specs.TableLaws.{numbers}
 use Rattle.cosine.specs.CosineLaws.{tableC, C-table}
-use Rattle.cosine.specs.LengthLaws.{of-tabled}
+use Rattle.cosine.specs.LengthLaws.{of-tabled, part-of}
 use Rattle.cosine.specs.KernelLaws.{W-size, rising-low}
 
 -- the rising half r of a joint between hops of M samples. The falling half is its mirror, r(M-1-n).
@@ -51,7 +51,7 @@ test = tt
 -- the sine window's rising half
 pub sine-joint : (N : ℕ) → T (tabled N) → Joint (N / 2) (rising N)
 sine-joint N t = record {
-  low = rising-low N t;
+  low = rising-low N (part-of N t);
   size = λ n p. small n;
   both = λ n p. rw (W-table N n, W-table N (N / 2 - 1 - n)) (tested n p .0);
   power = λ n p. rw (W-table N n, W-table N (N / 2 - 1 - n)) (tested n p .1);

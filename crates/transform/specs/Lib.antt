@@ -1,0 +1,4 @@
+pub mod Analysis
+pub mod Synthesis
+pub mod ShortRoute
+pub mod FoldLaws
