@@ -2,14 +2,15 @@
 use mathlib.Core.Path.{_≡_, refl, sym, _∙_, ap}
 use mathlib.Core.List.{List, [], _∷_, _++_, append-nil}
 use mathlib.Core.Logic.{dite}
-use Prim.Native.Nat.{ℕ, zero, suc, _+_, _<_}
-use native.Mathlib.Nat.{not-suc-le-zero}
+use Prim.Native.Nat.{ℕ, zero, suc, _+_, _≤_, _<_}
+use native.Mathlib.Nat.{not-suc-le-zero, le-refl}
 use native.Mathlib.Numerals.{add-one}
 use native.Mathlib.Omega.{arith}
 use native.Mathlib.Decide.{decLt}
-use lib.ListN.{length, set, drop, getD, length-append, List·getD-append, drop-of-length-le, length-set}
-use lib.Seq.{set-at, drop-cons, append-snoc, getD-at}
-use Rattle.arithmetic.specs.Lists.{table}
+use lib.IntN.{ℤ, pos}
+use lib.ListN.{length-drop, take, length, set, drop, getD, length-append, List·getD-append, drop-of-length-le, length-set}
+use lib.Seq.{length-take-le, getD-take, getD-drop, set-at, drop-cons, append-snoc, getD-at}
+use Rattle.arithmetic.specs.Lists.{at, Small, table}
 
 module _ {A : Type 0} (f : ℕ → A) where
   pub length-table : (m : ℕ) → length (table m f) ≡ m
@@ -36,6 +37,11 @@ module _ {A : Type 0} (f : ℕ → A) where
       (add-one k, drop-cons (x ∷ d) k x h)
       (set-at (table k f) (getD (x ∷ d) k x) (drop (suc k) (x ∷ d)) (f k) k (length-table k) ∙ sym (append-snoc (table k f) (f k) (drop (suc k) (x ∷ d))))
 
+pub table-ext : {A : Type 0} (m : ℕ) (f g : ℕ → A) → ((i : ℕ) → i < m → f i ≡ g i) → table m f ≡ table m g
+unfolding table
+table-ext zero f g h = refl
+table-ext (suc m) f g h = rw (table-ext m f g (λ i p. h i (omega arith)), h m (le-refl (suc m)))
+
 -- the first k entries of out are f 0 .. f (k - 1), and the rest is as it was in out₀
 pub record Filled {A : Type 0} (f : ℕ → A) (k : ℕ) (out out₀ : List A) : Type 0 where
   pub is : out ≡ table k f ++ drop k out₀
@@ -52,3 +58,14 @@ module _ {A : Type 0} (f : ℕ → A) where
 
   pub filled-all : (k : ℕ) (out out₀ : List A) → Filled f k out out₀ → length out₀ ≡ k → out ≡ table k f
   filled-all k out out₀ so e = so .is ∙ rw (drop-of-length-le out₀ {i = k} (omega arith)) (append-nil (table k f))
+
+-- ---- a part of a list: m entries from place p
+module _ (xs : List ℤ) (p n m : ℕ) (is : n ≡ m) (fits : p + m ≤ length xs) where
+  pub part-length : length (take n (drop p xs)) ≡ m
+  part-length = length-take-le n (drop p xs) (omega (arith, length-drop p xs)) ∙ is
+
+  pub part-at : (i : ℕ) → i < m → at (take n (drop p xs)) i ≡ at xs (p + i)
+  part-at i h = getD-take n (drop p xs) i (pos 0) (omega arith) ∙ getD-drop p xs i (pos 0)
+
+  pub part-small : (B : ℕ) → Small xs B → Small (take n (drop p xs)) B
+  part-small B s = record { small = λ i h. rw (part-at i (omega (arith, part-length))) (s .small (p + i) (omega (arith, part-length))) }

@@ -1,13 +1,17 @@
 -- Lists by their entries: definitions.
 use mathlib.Core.Bool.{Bool, true, false, cond}
 use mathlib.Core.List.{List, [], _∷_, _++_}
-use Prim.Native.Nat.{ℕ, zero, suc}
-use lib.ListN.{getD}
-use lib.IntN.{ℤ, pos}
+use Prim.Native.Nat.{ℕ, zero, suc, _≤_, _<_}
+use lib.ListN.{length, getD}
+use lib.IntN.{ℤ, pos, natAbs}
 
 -- entry i of a list of whole numbers; 0 past its end
 abbrev pub at : List ℤ → ℕ → ℤ
 at xs i = getD xs i (pos 0)
+
+-- every entry is at most B away from zero
+pub record Small (xs : List ℤ) (B : ℕ) : Type 0 where
+  pub small : (i : ℕ) → i < length xs → natAbs (at xs i) ≤ B
 
 -- the list f 0, .., f (m - 1)
 unfoldable pub table : {A : Type 0} → ℕ → (ℕ → A) → List A

@@ -1,12 +1,12 @@
 -- The block lengths, the window W and the kernels K and L: definitions. Document 01, 'What the recorder holds',
 -- 'Rounding and the cosine table' and 'Short route'.
-use mathlib.Core.Bool.{Bool, not}
+use mathlib.Core.Bool.{Bool, cond, not}
 use mathlib.Core.List.{List, [], _∷_}
-use Prim.Native.Nat.{ℕ, _+_, _*_, _/_}
+use Prim.Native.Nat.{ℕ, _+_, _*_, _/_, _%_}
 use lib.Dec.{eqb}
-use lib.IntN.{ℤ, pos, _-ℤ_, _*ℤ_}
+use lib.IntN.{ℤ, pos, negℤ, _+ℤ_, _-ℤ_, _*ℤ_}
 use Rattle.arithmetic.specs.Lists.{every}
-use Rattle.cosine.specs.Cosine.{quarter, C}
+use Rattle.cosine.specs.Cosine.{quarter, third, sixth, twelfth, C}
 
 -- N is the block length: 12, 24, 36 or 72. M = N/2 is a hop, document 01's term
 unfoldable pub lengths : List ℕ
@@ -46,3 +46,20 @@ L N n k = C (pos (3 * d N * (2 * n + 1 + N / 6) * (2 * k + 1)))
 -- the angle s = 2d(2n + 1) of the short route
 unfoldable pub s : ℕ → ℕ → ℕ
 s N n = 2 * d N * (2 * n + 1)
+
+-- the cosines beside e and f in the short route's rB and rC: C(72-s), C(s-24) + C(s+24), C(s), C(48-s) + C(96-s)
+unfoldable pub eB : ℕ → ℕ → ℤ
+eB N n = C (pos quarter -ℤ pos (s N n))
+
+unfoldable pub fB : ℕ → ℕ → ℤ
+fB N n = C (pos (s N n) -ℤ pos twelfth) +ℤ C (pos (s N n) +ℤ pos twelfth)
+
+unfoldable pub eC : ℕ → ℕ → ℤ
+eC N n = C (pos (s N n))
+
+unfoldable pub fC : ℕ → ℕ → ℤ
+fC N n = C (pos sixth -ℤ pos (s N n)) +ℤ C (pos third -ℤ pos (s N n))
+
+-- the sign of rC(n) is changed when n + N/12 is even
+unfoldable pub turned : ℕ → ℕ → ℤ → ℤ
+turned N n z = cond (eqb ((n + N / 12) % 2) 0) (negℤ z) z

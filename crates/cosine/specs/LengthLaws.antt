@@ -27,6 +27,24 @@ of-tabled p t N h = among lengths t h
     among (L ∷ ls) t h =
         pick L (eqb N L) (every (λ L. not (eqb N L)) ls) (eqb→eq N L) (both-left (p L) (every p ls) t) (λ u. among ls (both-right (p L) (every p ls) t) u) h
 
+-- the lengths by their tests: what is not one of the others is the last
+listed : ℕ → Bool
+listed N = cond (eqb N 12) true (cond (eqb N 24) true (cond (eqb N 36) true (eqb N 72)))
+
+listed-test : T (every listed lengths)
+unfolding every listed lengths
+listed-test = tt
+
+pub last-length : (N : ℕ) → T (tabled N) → ¬ (N ≡ 12) → ¬ (N ≡ 24) → ¬ (N ≡ 36) → N ≡ 72
+unfolding listed
+last-length N h a b c = go (eqb N 12) (eqb N 24) (eqb N 36) (eqb→eq N 12) (eqb→eq N 24) (eqb→eq N 36) (of-tabled listed listed-test N h)
+  where
+    go : (p q r : Bool) → (T p → N ≡ 12) → (T q → N ≡ 24) → (T r → N ≡ 36) → T (cond p true (cond q true (cond r true (eqb N 72)))) → N ≡ 72
+    go true q r e f g t = absurd (a (e tt))
+    go false true r e f g t = absurd (b (f tt))
+    go false false true e f g t = absurd (c (g tt))
+    go false false false e f g t = eqb→eq N 72 t
+
 -- a length is a multiple of 12, and d of its parts make a quarter turn
 pub record Length (N : ℕ) : Type 0 where
   pub twelve : 12 * (N / 12) ≡ N

@@ -7,4 +7,5 @@ pub mod KernelLaws
 pub mod PowerLaws
 pub mod PackLaws
 pub mod GramLaws
+pub mod SplitLaws
 pub mod Checked

@@ -1,14 +1,13 @@
 -- The short route: definitions. Document 01, 'Short route', in its names. N is the length of the part that is split, y its inputs: the windowed block.
 use mathlib.Core.Bool.{cond}
 use mathlib.Core.List.{List}
-use Prim.Native.Nat.{ℕ, _+_, _-_, _*_, _/_, _%_, _^_}
+use Prim.Native.Nat.{ℕ, _-_, _*_, _/_, _%_, _^_}
 use lib.Dec.{eqb}
-use lib.IntN.{ℤ, pos, negℤ, _+ℤ_, _-ℤ_, _*ℤ_}
+use lib.IntN.{ℤ, pos, _+ℤ_, _-ℤ_, _*ℤ_}
 use Rattle.arithmetic.specs.Rounding.{rnd}
 use Rattle.arithmetic.specs.Sums.{sum}
 use Rattle.arithmetic.specs.Lists.{table}
-use Rattle.cosine.specs.Cosine.{quarter, third, sixth, twelfth, C}
-use Rattle.cosine.specs.Kernels.{L, s}
+use Rattle.cosine.specs.Kernels.{L, eB, fB, eC, fC, turned}
 
 -- for n from 0 to N/3 - 1
 unfoldable pub a : ℕ → (ℕ → ℤ) → ℕ → ℤ
@@ -26,28 +25,11 @@ e N y n = pos 2 *ℤ c N y n -ℤ a N y n +ℤ b N y n
 unfoldable pub f : ℕ → (ℕ → ℤ) → ℕ → ℤ
 f N y n = a N y n +ℤ b N y n
 
--- the cosines beside e and f: C(72-s), C(s-24) + C(s+24), C(s), C(48-s) + C(96-s)
-unfoldable pub eB : ℕ → ℕ → ℤ
-eB N n = C (pos quarter -ℤ pos (s N n))
-
-unfoldable pub fB : ℕ → ℕ → ℤ
-fB N n = C (pos (s N n) -ℤ pos twelfth) +ℤ C (pos (s N n) +ℤ pos twelfth)
-
-unfoldable pub eC : ℕ → ℕ → ℤ
-eC N n = C (pos (s N n))
-
-unfoldable pub fC : ℕ → ℕ → ℤ
-fC N n = C (pos sixth -ℤ pos (s N n)) +ℤ C (pos third -ℤ pos (s N n))
-
 unfoldable pub rB : ℕ → (ℕ → ℤ) → ℕ → ℤ
 rB N y n = rnd (e N y n *ℤ eB N n -ℤ f N y n *ℤ fB N n) (2 ^ 26)
 
 unfoldable pub rC : ℕ → (ℕ → ℤ) → ℕ → ℤ
 rC N y n = rnd (e N y n *ℤ eC N n +ℤ f N y n *ℤ fC N n) (2 ^ 26)
-
--- the sign of rC(n) is changed when n + N/12 is even
-unfoldable pub turned : ℕ → ℕ → ℤ → ℤ
-turned N n z = cond (eqb ((n + N / 12) % 2) 0) (negℤ z) z
 
 -- the split, unrounded, for k from 0 to N/6 - 1
 unfoldable pub A : ℕ → (ℕ → ℤ) → ℕ → ℤ
@@ -72,3 +54,7 @@ shortX N y i =
 -- the M coefficients of the windowed block y
 unfoldable pub short : ℕ → (ℕ → ℤ) → List ℤ
 short N y = table (N / 2) (shortX N y)
+
+-- how far from a coefficient of the direct route the short route's may lie, in units of 1/64
+abbrev pub units : ℕ
+units = 16

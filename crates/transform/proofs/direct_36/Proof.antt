@@ -1,0 +1,45 @@
+-- `direct_36` meets its contract: the tables that it lends are the window's halves and the kernel's rows, by computing.
+use mathlib.Core.Path.{refl}
+use Rattle.arithmetic.specs.Lists.{table, every}
+use Rattle.cosine.specs.Cosine.{reduced, toHalf, toTurn, continued}
+use Rattle.cosine.specs.Kernels.{tabled, lengths}
+use Rattle.cosine.specs.TableLaws.{numbers}
+use Rattle.cosine.specs.CosineLaws.{tableC}
+use Rattle.transform.specs.RowLaws.{riseNumbers, fallNumbers, rowNumbers, rise-numbers, fall-numbers, row-numbers}
+use borrow.Author.Needs.{needs}
+use Rattle.transform.proofs.direct_36.Statement.{statement}
+use Rattle.transform.proofs.direct_36.Tie as tie
+
+slice-aggregate-direct-block : tie.Need-slice-aggregate-direct-block
+slice-aggregate-direct-block c = search needs
+
+slice-aggregate-direct-block-2 : tie.Need-slice-aggregate-direct-block-2
+slice-aggregate-direct-block-2 c = search needs
+
+slice-aggregate-direct-block-3 : tie.Need-slice-aggregate-direct-block-3
+slice-aggregate-direct-block-3 c = search needs
+
+slice-aggregate-direct-block-4 : tie.Need-slice-aggregate-direct-block-4
+slice-aggregate-direct-block-4 c = search needs
+
+direct-block-requires : tie.Need-direct-block-requires
+unfolding tabled every lengths riseNumbers fallNumbers rowNumbers table tableC continued toTurn toHalf reduced numbers
+direct-block-requires c κs = (tt, rise-numbers 36, fall-numbers 36, row-numbers 36, c .before .before .before .before .before .pre .0, refl, c .before .before .before .before .before .pre .1)
+
+same-length : tie.Need-same-length
+same-length c = search needs
+
+returns : tie.Need-returns
+returns c = search needs
+
+pub direct-36-spec : {M : Type 1} → statement M
+direct-36-spec =
+    tie.close
+    (tie.spec
+    slice-aggregate-direct-block
+    slice-aggregate-direct-block-2
+    slice-aggregate-direct-block-3
+    slice-aggregate-direct-block-4
+    direct-block-requires
+    same-length
+    returns)

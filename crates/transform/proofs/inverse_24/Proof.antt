@@ -1,0 +1,47 @@
+-- `inverse_24` meets its contract: the tables that it lends are the window's halves and the kernel's rows, by computing.
+use mathlib.Core.Path.{refl}
+use Rattle.arithmetic.specs.Lists.{table, every}
+use Rattle.cosine.specs.Cosine.{reduced, toHalf, toTurn, continued}
+use Rattle.cosine.specs.Kernels.{tabled, lengths}
+use Rattle.cosine.specs.TableLaws.{numbers}
+use Rattle.cosine.specs.CosineLaws.{tableC}
+use Rattle.transform.specs.RowLaws.{riseNumbers, fallNumbers, rowNumbers, rise-numbers, fall-numbers, row-numbers}
+use borrow.Author.Needs.{needs}
+use Rattle.transform.proofs.inverse_24.Statement.{statement}
+use Rattle.transform.proofs.inverse_24.Tie as tie
+
+slice-aggregate-inverse-block : tie.Need-slice-aggregate-inverse-block
+slice-aggregate-inverse-block c = search needs
+
+slice-aggregate-inverse-block-2 : tie.Need-slice-aggregate-inverse-block-2
+slice-aggregate-inverse-block-2 c = search needs
+
+slice-aggregate-inverse-block-3 : tie.Need-slice-aggregate-inverse-block-3
+slice-aggregate-inverse-block-3 c = search needs
+
+slice-aggregate-inverse-block-4 : tie.Need-slice-aggregate-inverse-block-4
+slice-aggregate-inverse-block-4 c = search needs
+
+inverse-block-requires : tie.Need-inverse-block-requires
+unfolding tabled every lengths riseNumbers fallNumbers rowNumbers table tableC continued toTurn toHalf reduced numbers
+inverse-block-requires c κs =
+    let q = c .before .before .before .before .before .pre in
+    (tt, rise-numbers 24, fall-numbers 24, row-numbers 24, q .0, q .1, refl, q .2)
+
+same-length : tie.Need-same-length
+same-length c = search needs
+
+returns : tie.Need-returns
+returns c = search needs
+
+pub inverse-24-spec : {M : Type 1} → statement M
+inverse-24-spec =
+    tie.close
+    (tie.spec
+    slice-aggregate-inverse-block
+    slice-aggregate-inverse-block-2
+    slice-aggregate-inverse-block-3
+    slice-aggregate-inverse-block-4
+    inverse-block-requires
+    same-length
+    returns)

@@ -1,0 +1,80 @@
+-- Laws of the direct route: what it depends on, and the coefficients from the folded block and the rows that the code has.
+use mathlib.Core.Path.{_≡_, sym, ap, _∙_}
+use mathlib.Core.List.{List}
+use Prim.Native.Nat.{ℕ, _+_, _-_, _*_, _/_, _^_, _≤_, _<_}
+use native.Mathlib.Omega.{arith}
+use native.Mathlib.Decide.{decLt}
+use lib.Dec.{T}
+use lib.IntN.{ℤ, pos, _*ℤ_}
+use Rattle.arithmetic.specs.Rounding.{rnd}
+use Rattle.arithmetic.specs.Sums.{sum}
+use Rattle.arithmetic.specs.Lists.{at, table}
+use Rattle.arithmetic.specs.ListLaws.{table-ext, getD-table}
+use Rattle.arithmetic.specs.SumLaws.{sum-ext}
+use Rattle.cosine.specs.Kernels.{tabled, rising, falling, K, F}
+use Rattle.cosine.specs.LengthLaws.{Part, part-of, length-of}
+use Rattle.cosine.specs.KernelLaws.{F-symmetric}
+use Rattle.transform.specs.Analysis.{window, y, S, X, direct}
+use Rattle.transform.specs.FoldLaws.{folded, S-folded}
+use Rattle.transform.specs.SizeLaws.{window-left, window-right}
+use Rattle.transform.specs.RowLaws.{riseList, fallList, rowList, rise-at, fall-at, row-at}
+
+-- the windowed block depends on M entries of each half
+pub y-ext : (N : ℕ) → Part N → (l r l′ r′ : ℕ → ℤ) (x : List ℤ) → ((n : ℕ) → n < N / 2 → l n ≡ l′ n) → ((n : ℕ) → n < N / 2 → r n ≡ r′ n) →
+    (n : ℕ) → n < N → y N l r x n ≡ y N l′ r′ x n
+unfolding y
+y-ext N len l r l′ r′ x p q n h = go (decLt n (N / 2))
+  where
+    go : Dec (n < N / 2) → rnd (window N l r n *ℤ at x n) (2 ^ 18) ≡ rnd (window N l′ r′ n *ℤ at x n) (2 ^ 18)
+    go (yes u) = rw (window-left N l r n u, window-left N l′ r′ n u, p n u)
+    go (no u) =
+        let v : N / 2 ≤ n = omega arith in
+        rw (window-right N l r n v, window-right N l′ r′ n v, q (n - N / 2) (omega (arith, len .four)))
+
+-- S depends on N entries of the windowed block
+pub S-ext : (N : ℕ) (u v : ℕ → ℤ) → ((n : ℕ) → n < N → u n ≡ v n) → (k : ℕ) → S N u k ≡ S N v k
+unfolding S
+S-ext N u v e k = sum-ext N (λ n. u n *ℤ K N n k) (λ n. v n *ℤ K N n k) (λ n p. ap (λ (z : ℤ). z *ℤ K N n k) (e n p))
+
+pub direct-ext : (N : ℕ) (u v : ℕ → ℤ) → ((n : ℕ) → n < N → u n ≡ v n) → direct N u ≡ direct N v
+unfolding direct X
+direct-ext N u v e = table-ext (N / 2) (X N u) (X N v) (λ k p. ap (λ (z : ℤ). rnd z (2 ^ 28)) (S-ext N u v e k))
+
+-- with the lists that the code lends
+pub y-lent : (N : ℕ) → T (tabled N) → (x : List ℤ) (n : ℕ) → n < N → y N (at (riseList N)) (at (fallList N)) x n ≡ y N (rising N) (falling N) x n
+y-lent N t x = y-ext N (part-of N t) (at (riseList N)) (at (fallList N)) (rising N) (falling N) x (rise-at N) (fall-at N)
+
+-- the coefficients that the code computes from the folded block
+pub direct-folded : (N : ℕ) → T (tabled N) → (u : ℕ → ℤ) →
+    table (N / 2) (λ k. rnd (sum (N / 2) (λ j. at (table (N / 2) (folded N u)) j *ℤ at (rowList N) (k * (N / 2) + j))) (2 ^ 28)) ≡ direct N u
+unfolding direct X
+direct-folded N t u =
+    table-ext (N / 2) (λ k. rnd (sum (N / 2) (λ j. at (table (N / 2) (folded N u)) j *ℤ at (rowList N) (k * (N / 2) + j))) (2 ^ 28)) (X N u)
+    (λ k p. ap (λ (z : ℤ). rnd z (2 ^ 28)) (each k p ∙ sym (S-folded N (part-of N t) u k)))
+  where
+    each : (k : ℕ) → k < N / 2 → sum (N / 2) (λ j. at (table (N / 2) (folded N u)) j *ℤ at (rowList N) (k * (N / 2) + j)) ≡ sum (N / 2) (λ j. folded N u j *ℤ F N j k)
+    each k p =
+        sum-ext (N / 2) (λ j. at (table (N / 2) (folded N u)) j *ℤ at (rowList N) (k * (N / 2) + j)) (λ j. folded N u j *ℤ F N j k)
+        (λ j q. rw (getD-table (folded N u) (pos 0) (N / 2) j q, row-at N k j p q, F-symmetric N k j))
+
+-- ---- what the code has, step by step: the lists that are lent, the folded block, the coefficients
+module _ (N : ℕ) (t : T (tabled N)) (x : List ℤ) where
+  abbrev lent : ℕ → ℤ
+  lent = y N (at (riseList N)) (at (fallList N)) x
+
+  pub folded-step : (m : ℕ) (left right z : List ℤ) → m ≡ N / 2 → left ≡ riseList N → right ≡ fallList N →
+      z ≡ table m (folded (2 * m) (y (2 * m) (at left) (at right) x)) → z ≡ table (N / 2) (folded N lent)
+  folded-step m left right z e l r h =
+      let two : 2 * (N / 2) ≡ N = omega (arith, length-of N t .twelve) in
+      rw (e, two, l, r) at h
+
+  pub direct-step : (m : ℕ) (rows z out : List ℤ) → m ≡ N / 2 → rows ≡ rowList N → z ≡ table (N / 2) (folded N lent) →
+      out ≡ table m (λ k. rnd (sum m (λ j. at z j *ℤ at rows (k * m + j))) (2 ^ 28)) → out ≡ direct N (y N (rising N) (falling N) x)
+  direct-step m rows z out e r f h =
+      rw (e, r, f) at h
+      ∙ direct-folded N t lent
+      ∙ direct-ext N lent (y N (rising N) (falling N) x) (y-lent N t x)
+
+-- the same at a length under another name
+pub direct-at : (n N : ℕ) (x out : List ℤ) → n ≡ N → out ≡ direct N (y N (rising N) (falling N) x) → out ≡ direct n (y n (rising n) (falling n) x)
+direct-at n N x out e h = rw e h

@@ -1,0 +1,178 @@
+-- Laws of the inverse: each V is a number of the window times one of M sums, or its negative, rounded by itself.
+use mathlib.Core.Path.{_≡_, ap, ap₂, _∙_}
+use mathlib.Core.Bool.{cond}
+use mathlib.Core.List.{List}
+use Prim.Native.Nat.{ℕ, _+_, _-_, _*_, _/_, _^_, _≤_, _<_}
+use native.Mathlib.Omega.{arith}
+use native.Mathlib.Decide.{decLt}
+use lib.Dec.{T, ltb}
+use lib.ListN.{length}
+use lib.IntN.{ℤ, pos, negℤ, _*ℤ_}
+use Rattle.arithmetic.specs.Rounding.{rnd}
+use Rattle.arithmetic.specs.Sums.{sum}
+use Rattle.arithmetic.specs.Lists.{at, table}
+use Rattle.arithmetic.specs.ListLaws.{table-ext, length-table, getD-table}
+use Rattle.arithmetic.specs.TestLaws.{cond-lt, cond-ge}
+use Rattle.arithmetic.specs.SumLaws.{sum-ext}
+use Rattle.cosine.specs.Kernels.{tabled, rising, falling, F}
+use Rattle.cosine.specs.LengthLaws.{Part, part-of, length-of}
+use Rattle.transform.specs.Analysis.{window}
+use Rattle.transform.specs.Synthesis.{U, V′}
+use Rattle.transform.specs.FoldLaws.{inverse-first, inverse-middle, inverse-last}
+use Rattle.transform.specs.SizeLaws.{window-left, window-right}
+use Rattle.transform.specs.RowLaws.{riseList, fallList, rowList, rise-at, fall-at, row-at}
+
+-- the sum over k of X(k) × F(j,k)
+unfoldable pub folds : ℕ → List ℤ → ℕ → ℤ
+folds N X j = sum (N / 2) (λ k. at X k *ℤ F N j k)
+
+-- M samples to a hop, h half a hop: the four quarters of the block
+module _ (M : ℕ) (len : Part (2 * M)) (left right : ℕ → ℤ) (X : List ℤ) where
+  abbrev t : ℕ → ℤ
+  t = folds (2 * M) X
+
+  abbrev h : ℕ
+  h = M / 2
+
+  quarter-is : 2 * M / 4 ≡ h
+  quarter-is = omega (arith, len .four)
+
+  pub V-first : (n : ℕ) → n < h → V′ (2 * M) left right X n ≡ left n *ℤ rnd (t (h + n)) (2 ^ 26)
+  unfolding V′ U folds
+  V-first n p =
+      let e : n + 2 * M / 4 ≡ h + n = omega (arith, len .four) in
+      ap₂ (λ (a b : ℤ). a *ℤ rnd b (2 ^ 26)) (window-left (2 * M) left right n (omega arith)) (rw e at (inverse-first (2 * M) len X n (omega (arith, len .four))))
+
+  back : (n : ℕ) → 3 * (2 * M / 4) - 1 - n ≡ 3 * h - 1 - n
+  back n = rw quarter-is
+
+  pub V-second : (n : ℕ) → h ≤ n → n < M → V′ (2 * M) left right X n ≡ left n *ℤ rnd (negℤ (t (3 * h - 1 - n))) (2 ^ 26)
+  unfolding V′ U folds
+  V-second n p q =
+      ap₂ (λ (a b : ℤ). a *ℤ rnd b (2 ^ 26)) (window-left (2 * M) left right n (omega arith))
+      (rw (back n) at (inverse-middle (2 * M) len X n (omega (arith, len .four)) (omega (arith, len .four))))
+
+  over : (n : ℕ) → n - 2 * M / 2 ≡ n - M
+  over n = omega arith
+
+  pub V-third : (n : ℕ) → M ≤ n → n < 3 * h → V′ (2 * M) left right X n ≡ right (n - M) *ℤ rnd (negℤ (t (3 * h - 1 - n))) (2 ^ 26)
+  unfolding V′ U folds
+  V-third n p q =
+      ap₂ (λ (a b : ℤ). a *ℤ rnd b (2 ^ 26)) (rw (over n) at (window-right (2 * M) left right n (omega arith)))
+      (rw (back n) at (inverse-middle (2 * M) len X n (omega (arith, len .four)) (omega (arith, len .four))))
+
+  pub V-fourth : (n : ℕ) → M ≤ n → 3 * h ≤ n → V′ (2 * M) left right X n ≡ right (n - M) *ℤ rnd (negℤ (t (n - 3 * h))) (2 ^ 26)
+  unfolding V′ U folds
+  V-fourth n p q =
+      let e : n - 3 * (2 * M / 4) ≡ n - 3 * h = omega (arith, len .four) in
+      ap₂ (λ (a b : ℤ). a *ℤ rnd b (2 ^ 26)) (rw (over n) at (window-right (2 * M) left right n (omega arith)))
+      (rw e at (inverse-last (2 * M) len X n (omega (arith, len .four))))
+
+-- V at place n from the M sums t, as the code takes it
+unfoldable pub valueAt : List ℤ → List ℤ → List ℤ → ℕ → ℤ
+valueAt left right t n =
+    let m = length t in
+    let h = length t / 2 in
+    cond (ltb n h) (at left n *ℤ rnd (at t (h + n)) (2 ^ 26))
+    (cond (ltb n m) (at left n *ℤ rnd (negℤ (at t (3 * h - 1 - n))) (2 ^ 26))
+    (cond (ltb n (3 * h)) (at right (n - m) *ℤ rnd (negℤ (at t (3 * h - 1 - n))) (2 ^ 26))
+    (at right (n - m) *ℤ rnd (negℤ (at t (n - 3 * h))) (2 ^ 26))))
+
+module _ (left right t : List ℤ) (n : ℕ) where
+  abbrev m : ℕ
+  m = length t
+
+  abbrev q : ℕ
+  q = length t / 2
+
+  abbrev u1 : ℤ
+  u1 = at left n *ℤ rnd (at t (q + n)) (2 ^ 26)
+
+  abbrev u2 : ℤ
+  u2 = at left n *ℤ rnd (negℤ (at t (3 * q - 1 - n))) (2 ^ 26)
+
+  abbrev u3 : ℤ
+  u3 = at right (n - m) *ℤ rnd (negℤ (at t (3 * q - 1 - n))) (2 ^ 26)
+
+  abbrev u4 : ℤ
+  u4 = at right (n - m) *ℤ rnd (negℤ (at t (n - 3 * q))) (2 ^ 26)
+
+  abbrev late : ℤ
+  late = cond (ltb n (3 * q)) u3 u4
+
+  pub value-first : n < q → valueAt left right t n ≡ u1
+  unfolding valueAt
+  value-first p = cond-lt n q u1 (cond (ltb n m) u2 late) p
+
+  pub value-second : q ≤ n → n < m → valueAt left right t n ≡ u2
+  unfolding valueAt
+  value-second p r = cond-ge n q u1 (cond (ltb n m) u2 late) p ∙ cond-lt n m u2 late r
+
+  pub value-third : m ≤ n → n < 3 * q → valueAt left right t n ≡ u3
+  unfolding valueAt
+  value-third p r = cond-ge n q u1 (cond (ltb n m) u2 late) (omega arith) ∙ cond-ge n m u2 late p ∙ cond-lt n (3 * q) u3 u4 r
+
+  pub value-fourth : m ≤ n → 3 * q ≤ n → valueAt left right t n ≡ u4
+  unfolding valueAt
+  value-fourth p r = cond-ge n q u1 (cond (ltb n m) u2 late) (omega arith) ∙ cond-ge n m u2 late p ∙ cond-ge n (3 * q) u3 u4 r
+
+-- and that is V
+pub value-is : (M : ℕ) → Part (2 * M) → (left right t X : List ℤ) → t ≡ table M (folds (2 * M) X) → (n : ℕ) → n < 2 * M →
+    valueAt left right t n ≡ V′ (2 * M) (at left) (at right) X n
+value-is M len left right s X e n b = go (decLt n (M / 2)) (decLt n M) (decLt n (3 * (M / 2)))
+  where
+    even : 2 * (M / 2) ≡ M
+    even = let e : M ≡ 2 * (2 * M / 4) = omega (arith, len .four) in omega arith
+
+    long : length s ≡ M
+    long = ap length e ∙ length-table (folds (2 * M) X) M
+
+    entry : (j : ℕ) → j < M → at s j ≡ folds (2 * M) X j
+    entry j p = ap (λ (l : List ℤ). at l j) e ∙ getD-table (folds (2 * M) X) (pos 0) M j p
+
+    go : Dec (n < M / 2) → Dec (n < M) → Dec (n < 3 * (M / 2)) → valueAt left right s n ≡ V′ (2 * M) (at left) (at right) X n
+    go (yes p) d₂ d₃ = rw long at (value-first left right s n (rw long p)) ∙ rw (entry (M / 2 + n) (omega (arith, even)), V-first M len (at left) (at right) X n p)
+    go (no p) (yes r) d₃ =
+        rw long at (value-second left right s n (rw long (omega (arith, even))) (rw long r))
+        ∙ rw (entry (3 * (M / 2) - 1 - n) (omega (arith, even)), V-second M len (at left) (at right) X n (omega (arith, even)) r)
+    go (no p) (no r) (yes u) =
+        rw long at (value-third left right s n (rw long (omega (arith, even))) (rw long u))
+        ∙ rw (entry (3 * (M / 2) - 1 - n) (omega (arith, even)), V-third M len (at left) (at right) X n (omega (arith, even)) u)
+    go (no p) (no r) (no u) =
+        rw long at (value-fourth left right s n (rw long (omega (arith, even))) (rw long (omega (arith, even))))
+        ∙ rw (entry (n - 3 * (M / 2)) (omega (arith, even)), V-fourth M len (at left) (at right) X n (omega (arith, even)) (omega (arith, even)))
+
+-- V depends on M entries of each half
+pub V-ext : (N : ℕ) → Part N → (l r l′ r′ : ℕ → ℤ) (X : List ℤ) → ((n : ℕ) → n < N / 2 → l n ≡ l′ n) → ((n : ℕ) → n < N / 2 → r n ≡ r′ n) →
+    (n : ℕ) → n < N → V′ N l r X n ≡ V′ N l′ r′ X n
+unfolding V′
+V-ext N len l r l′ r′ X p q n b = go (decLt n (N / 2))
+  where
+    go : Dec (n < N / 2) → window N l r n *ℤ U N X n ≡ window N l′ r′ n *ℤ U N X n
+    go (yes u) = rw (window-left N l r n u, window-left N l′ r′ n u, p n u)
+    go (no u) =
+        let v : N / 2 ≤ n = omega arith in
+        rw (window-right N l r n v, window-right N l′ r′ n v, q (n - N / 2) (omega (arith, len .four)))
+
+-- ---- what the code has: the sums from the rows, and V from the lists that are lent
+module _ (N : ℕ) (t : T (tabled N)) (X : List ℤ) where
+  pub folds-step : (m : ℕ) (rows s : List ℤ) → m ≡ N / 2 → rows ≡ rowList N → s ≡ table m (λ j. sum m (λ k. at X k *ℤ at rows (j * m + k))) → s ≡ table (N / 2) (folds N X)
+  unfolding folds
+  folds-step m rows s e r h =
+      rw (e, r) at h
+      ∙ table-ext (N / 2) (λ j. sum (N / 2) (λ k. at X k *ℤ at (rowList N) (j * (N / 2) + k))) (λ j. sum (N / 2) (λ k. at X k *ℤ F N j k))
+      (λ j p. sum-ext (N / 2) (λ k. at X k *ℤ at (rowList N) (j * (N / 2) + k)) (λ k. at X k *ℤ F N j k) (λ k q. ap (λ (z : ℤ). at X k *ℤ z) (row-at N j k p q)))
+
+  pub value-step : (left right s v : List ℤ) (n : ℕ) → n ≡ N → left ≡ riseList N → right ≡ fallList N → s ≡ table (N / 2) (folds N X) →
+      v ≡ table n (valueAt left right s) → v ≡ table N (V′ N (rising N) (falling N) X)
+  value-step left right s v n e l r f h =
+      let two : 2 * (N / 2) ≡ N = omega (arith, length-of N t .twelve) in
+      rw (e, l, r) at h
+      ∙ table-ext N (valueAt (riseList N) (fallList N) s) (V′ N (at (riseList N)) (at (fallList N)) X)
+      (λ n p. rw two at (value-is (N / 2)) (part-of N t) (riseList N) (fallList N) s X f n p)
+      ∙ table-ext N (V′ N (at (riseList N)) (at (fallList N)) X) (V′ N (rising N) (falling N) X)
+      (V-ext N (part-of N t) (at (riseList N)) (at (fallList N)) (rising N) (falling N) X (rise-at N) (fall-at N))
+
+-- the same at a length under another name
+pub V-at : (n N : ℕ) (X v : List ℤ) → n ≡ N → v ≡ table N (V′ N (rising N) (falling N) X) → v ≡ table n (V′ n (rising n) (falling n) X)
+V-at n N X v e h = rw e h

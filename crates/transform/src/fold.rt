@@ -1,0 +1,63 @@
+// The windowed block, folded to half its length. A hop has m samples, an even number, and the block 2 m.
+ghost use mathlib.Core.Path.{_≡_};
+ghost use Prim.Native.Nat.{_+_, _-_, _*_, _/_, _^_, _≤_, _<_};
+ghost use lib.ListN.{length};
+ghost use lib.IntN.{negℤ, natAbs, _-ℤ_, _*ℤ_};
+ghost use Rattle.arithmetic.specs.Lists.{at, table, Small};
+ghost use Rattle.transform.specs.Analysis.{y};
+ghost use Rattle.transform.specs.FoldLaws.{folded};
+ghost use Rattle.transform.specs.HopLaws.{windowed};
+
+fn weighted(w: i32, x: i16) -> i64
+    ensures { λ r. ⌜ (r ≡ w *ℤ x) × (natAbs x ≤ 2 ^ 15) ⌝ }
+{
+    w as i64 * x as i64
+}
+
+// Sample n, windowed by entry i of a half of the joint.
+fn windowed(half: &[i32], i: usize, x: &[i16], n: usize) -> i32
+    requires { ⌜ Small (now half) (2 ^ 26) × (i < length (now half)) × (n < length (now x)) ⌝ }
+    ensures { λ r. ⌜ (r ≡ windowed (now (half .entry)) i (now (x .entry)) n) × (natAbs r ≤ 2 ^ 23) ⌝ }
+{
+    arithmetic::rnd_shift(weighted(half[i], x[n]), 18) as i32
+}
+
+// Two places of the first hop: a sample less its mirrored one.
+fn difference(left: &[i32], x: &[i16], a: usize, b: usize) -> i32
+    requires { ⌜ Small (now left) (2 ^ 26) × (length (now left) ≤ length (now x)) × (a < length (now left)) × (b < length (now left)) ⌝ }
+    ensures { λ r. ⌜ (r ≡ windowed (now (left .entry)) a (now (x .entry)) a -ℤ windowed (now (left .entry)) b (now (x .entry)) b) × (natAbs r ≤ 2 ^ 24) ⌝ }
+{
+    windowed(left, a, x, a) - windowed(left, b, x, b)
+}
+
+// Two places of the second hop, which starts at m: a sample and its mirrored one, both with the sign changed.
+fn negated_sum(right: &[i32], x: &[i16], m: usize, a: usize, b: usize) -> i32
+    requires { ⌜ Small (now right) (2 ^ 26) × (m + length (now right) ≤ length (now x)) × (a < length (now right)) × (b < length (now right)) ⌝ }
+    ensures { λ r. ⌜ (r ≡ negℤ (windowed (now (right .entry)) a (now (x .entry)) (m + a)) -ℤ windowed (now (right .entry)) b (now (x .entry)) (m + b)) × (natAbs r ≤ 2 ^ 24) ⌝ }
+{
+    -windowed(right, a, x, m + a) - windowed(right, b, x, m + b)
+}
+
+// Place j of the folded block.
+fn folded_at(left: &[i32], right: &[i32], x: &[i16], m: usize, j: usize) -> i32
+    requires { ⌜ (length (now left) ≡ m) × (length (now right) ≡ m) × (length (now x) ≡ 2 * m) × (2 * (m / 2) ≡ m) × (j < m) × Small (now left) (2 ^ 26) × Small (now right) (2 ^ 26) ⌝ }
+    ensures { λ r. ⌜ (r ≡ folded (2 * m) (y (2 * m) (at (now (left .entry))) (at (now (right .entry))) (now (x .entry))) j) × (natAbs r ≤ 2 ^ 24) ⌝ }
+{
+    let h = m / 2;
+    if j < h {
+        negated_sum(right, x, m, h - 1 - j, h + j)
+    } else {
+        difference(left, x, j - h, 3 * h - 1 - j)
+    }
+}
+
+pub fn fold(left: &[i32], right: &[i32], x: &[i16], z: &mut [i32])
+    requires { ⌜ (length (now left) ≡ length (now z)) × (length (now right) ≡ length (now z)) × (length (now x) ≡ 2 * length (now z)) × (2 * (length (now z) / 2) ≡ length (now z)) × Small (now left) (2 ^ 26) × Small (now right) (2 ^ 26) ⌝ }
+    ensures { λ _. ⌜ now (z .exit) ≡ table (length (now (z .entry))) (folded (2 * length (now (z .entry))) (y (2 * length (now (z .entry))) (at (now (left .entry))) (at (now (right .entry))) (now (x .entry)))) ⌝ }
+    ensures { λ _. ⌜ Small (now (z .exit)) (2 ^ 24) ⌝ }
+{
+    let m = z.len();
+    for j in 0..m {
+        z[j] = folded_at(left, right, x, m, j);
+    }
+}
