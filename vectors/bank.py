@@ -1,9 +1,11 @@
 """Document 01 in exact whole numbers, as plainly as it is written: the source of every stored output.
 It shares no table, folding or rounding with the crates."""
 from fractions import Fraction
+from functools import cache
 from math import factorial, floor
 
 LENGTHS = (12, 24, 36, 72)
+STORAGE = 36
 P = Fraction(3141592653589793, 10**15)
 
 
@@ -22,6 +24,7 @@ def series(t):
 QUARTER = [series(t) for t in range(73)]
 
 
+@cache
 def C(t):
     t %= 288
     if t <= 72:
@@ -43,3 +46,197 @@ def L(N, n, k):
 
 def clamp(z):
     return max(-32768, min(32767, z))
+
+
+# Analysis. x is a block of N samples, y its N windowed samples.
+
+
+def y(N, x):
+    return [rnd(W(N, n) * x[n], 2**18) for n in range(N)]
+
+
+def S(N, y):
+    return [sum(y[n] * K(N, n, k) for n in range(N)) for k in range(N // 2)]
+
+
+def direct(N, x):
+    return [rnd(s, 2**28) for s in S(N, y(N, x))]
+
+
+def short(N, x):
+    yy, d, third, sixth = y(N, x), 72 // N, N // 3, N // 6
+    main, rB, rC = [], [], []
+    for n in range(third):
+        a, b, c = yy[third - 1 - n], yy[2 * third - 1 - n], yy[N - 1 - n]
+        e, f, s = 2 * c - a + b, a + b, 2 * d * (2 * n + 1)
+        main.append(a - b + c)
+        rB.append(rnd(e * C(72 - s) - f * (C(s - 24) + C(s + 24)), 2**26))
+        rC.append(rnd(e * C(s) + f * (C(48 - s) + C(96 - s)), 2**26))
+    signed = [-rC[n] if (n + N // 12) % 2 == 0 else rC[n] for n in range(third)]
+    A = [sum(L(N, n, k) * main[n] for n in range(third)) for k in range(sixth)]
+    B = [sum(L(N, n, k) * rB[n] for n in range(third)) for k in range(sixth)]
+    G = [sum(L(N, n, k) * signed[n] for n in range(third)) for k in range(sixth)]
+    X = [0] * (N // 2)
+    for k in range(sixth):
+        D = G[sixth - 1 - k]
+        X[3 * k] = rnd(B[k] + D, 2**29)
+        X[3 * k + 1] = rnd(A[k], 2**28)
+        X[3 * k + 2] = rnd(B[k] - D, 2**29)
+    return X
+
+
+ROUTES = {"direct": direct, "short": short}
+
+
+# Synthesis. X is a block's M coefficients.
+
+
+def U(N, X):
+    return [rnd(sum(X[k] * K(N, n, k) for k in range(N // 2)), 2**26) for n in range(N)]
+
+
+def V(N, X):
+    return [W(N, n) * u for n, u in enumerate(U(N, X))]
+
+
+def next_hop(N, tail, X):
+    """The hop and the new tail of M entries."""
+    M, v = N // 2, V(N, X)
+    return [clamp(rnd(tail[n] + v[n], N * 2**30)) for n in range(M)], v[M:]
+
+
+# The calls. Each gives its number and what it writes; None: every buffer and stream is left as it was.
+# A stream is N and the STORAGE entries of its tail. A buffer that is only written stands as its length.
+
+COEFFICIENT_LIMIT = 536870912
+BLOCKS = 4096
+
+
+def tail_limit(N):
+    return N // 2 * 2**55
+
+
+def beyond(X):
+    return any(abs(c) > COEFFICIENT_LIMIT for c in X)
+
+
+def analyse(route, N, x, length):
+    if N not in LENGTHS:
+        return 1, None
+    if len(x) != N or length != N // 2:
+        return 2, None
+    return 0, ROUTES[route](N, x)
+
+
+def fresh(N):
+    if N not in LENGTHS:
+        return 1, (0, [0] * STORAGE)
+    return 0, (N, [0] * STORAGE)
+
+
+def step(stream, X, length):
+    """The number, the hop and the stream to go on with."""
+    N, tail = stream
+    if N not in LENGTHS or any(abs(t) > tail_limit(N) for t in tail[: N // 2]):
+        return 4, None, stream
+    if len(X) != N // 2 or length != N // 2:
+        return 2, None, stream
+    if beyond(X):
+        return 3, None, stream
+    hop, new = next_hop(N, tail, X)
+    return 0, hop, (N, new + tail[N // 2 :])
+
+
+def analyse_recording(route, N, B, x, length):
+    if N not in LENGTHS:
+        return 1, None
+    M = N // 2
+    if not 1 <= B <= BLOCKS or len(x) != (B + 1) * M or length != B * M:
+        return 2, None
+    return 0, [c for b in range(B) for c in ROUTES[route](N, x[b * M : b * M + N])]
+
+
+def synthesise_recording(N, B, X, length):
+    if N not in LENGTHS:
+        return 1, None
+    M = N // 2
+    if not 1 <= B <= BLOCKS or len(X) != B * M or length != B * M:
+        return 2, None
+    if beyond(X):
+        return 3, None
+    out, tail = [], [0] * M
+    for b in range(B):
+        hop, tail = next_hop(N, tail, X[b * M : b * M + M])
+        out += hop
+    return 0, out
+
+
+def inner(N, B, out):
+    """The part of out as its place and its entries."""
+    if N not in LENGTHS or not 1 <= B <= BLOCKS or len(out) != B * (N // 2):
+        return 0, []
+    return N // 2, out[N // 2 :]
+
+
+# The calls of include/dapplescree.h over a state, N and then the tail. A state is returned as it then stands.
+
+STATE = 1 + STORAGE
+
+
+def stream_fresh(N, state):
+    if len(state) != STATE:
+        return 2, state
+    number, stream = fresh(N)
+    return (number, state) if number else (0, [stream[0]] + stream[1])
+
+
+def stream_step(state, X, length):
+    if len(state) != STATE:
+        return 2, None, state
+    number, hop, (N, tail) = step((state[0], state[1:]), X, length)
+    return number, hop, [N] + tail
+
+
+# The listing program.
+
+
+def number(field):
+    """The number that a field writes, or None where it is not of the form."""
+    digits = field.removeprefix(b"-")
+    if not 1 <= len(digits) <= 5 or any(c not in b"0123456789" for c in digits):
+        return None
+    if digits[:1] == b"0" and field != b"0":
+        return None
+    return int(field)
+
+
+def listing(data):
+    """What round-trip prints for the bytes of its standard input."""
+
+    def refused(number, line):
+        return b"refused,%d,%d\n" % (number, line)
+
+    if len(data) > 65536:
+        return refused(6, 0)
+    *lines, rest = data.split(b"\n")
+    if not lines:
+        return refused(5, 1)
+    N = number(lines[0])
+    if N is None:
+        return refused(5, 1)
+    if N not in LENGTHS:
+        return refused(1, 1)
+    M, samples = N // 2, []
+    for at, line in enumerate(lines[1:], 2):
+        hop = [number(field) for field in line.split(b",")]
+        if len(hop) != M or any(s is None or not -32768 <= s <= 32767 for s in hop):
+            return refused(5, at)
+        samples += hop
+    if rest:
+        return refused(5, len(lines) + 1)
+    rows, tail = [["hop"] + [f"s{n}" for n in range(M)]], [0] * M
+    for b in range(len(samples) // M - 1):
+        hop, tail = next_hop(N, tail, direct(N, samples[b * M : b * M + N]))
+        if b > 0:
+            rows.append([b] + hop)
+    return "".join(",".join(str(f) for f in row) + "\n" for row in rows).encode()

@@ -8,7 +8,7 @@ use native.Mathlib.Nat.{mul-le-mul, mul-le-mul-left, lt-of-le-of-lt}
 use native.Mathlib.Omega.{arith}
 use lib.Dec.{T, ltb, ltb→lt}
 use lib.IntN.{ℤ, pos, negsuc, negℤ, natAbs, _+ℤ_, _-ℤ_, _*ℤ_}
-use lib.Signed.{_≤ℤ_, _<ℤ_, ltZ, leZ, ltZ-yes, ltZ-no, leZ-yes, shrZ, mag-shr, natAbs-le}
+use lib.Signed.{_≤ℤ_, _<ℤ_, ltZ, leZ, ltZ-yes, ltZ-no, leZ-yes, clashℤ, shrZ, mag-shr, natAbs-le}
 use mir.Syntax.{Width}
 use mir.Val.{SFits, hbits}
 use mir.ValLaws.{sfits-le}
@@ -39,6 +39,20 @@ ltZ-true a b e = ltZ-yes (rw e tt)
 
 pub ltZ-false : (a b : ℤ) → ltZ a b ≡ false → b ≤ℤ a
 ltZ-false a b e = ltZ-no (rw e tt)
+
+pub leZ-is : {a b : ℤ} → a ≤ℤ b → leZ a b ≡ true
+leZ-is {a} {b} h = by (leZ a b) (h .le)
+  where
+    by : (t : Bool) → T t → t ≡ true
+    by true u = refl
+    by false u = absurd u
+
+pub ltZ-not : (a b : ℤ) → ltZ a b ≡ true → leZ b a ≡ false
+ltZ-not a b e = by (leZ b a) (λ t. clashℤ (ltZ-true a b e) (leZ-yes t))
+  where
+    by : (t : Bool) → (T t → ⊥) → t ≡ false
+    by true u = absurd (u tt)
+    by false u = refl
 
 pub leZ-true : (a b : ℤ) → leZ a b ≡ true → a ≤ℤ b
 leZ-true a b e = leZ-yes (rw e tt)

@@ -1,9 +1,10 @@
 -- Laws of computed tests: a test that the checker computes over a whole table, as the rule at each entry.
-use mathlib.Core.Path.{_≡_, refl, ap}
+use mathlib.Core.Path.{_≡_, refl, ap, subst}
 use mathlib.Core.Bool.{Bool, true, false, cond}
 use mathlib.Core.List.{List, [], _∷_}
-use Prim.Native.Nat.{ℕ, zero, suc, _≤_, _<_}
+use Prim.Native.Nat.{ℕ, zero, suc, _+_, _≤_, _<_}
 use native.Mathlib.Nat.{le-refl, le-of-suc-le-suc, not-suc-le-zero}
+use native.Mathlib.Numerals.{add-one}
 use native.Mathlib.Omega.{arith}
 use native.Mathlib.Decide.{decLt}
 use lib.Dec.{T, leb, le→leb, leb→le, ltb, lt→ltb, ltb→lt, eqb, eqb→eq}
@@ -73,6 +74,22 @@ pub all-make : (n : ℕ) (p : ℕ → Bool) → ((i : ℕ) → i < n → T (p i)
 unfolding all
 all-make zero p h = tt
 all-make (suc n) p h = both-make (all n p) (p n) (all-make n p (λ i q. h i (omega arith))) (h n (le-refl (suc n)))
+
+-- the same as equations, for a loop that stops at the first failure
+pub all-none : (p : ℕ → Bool) → all 0 p ≡ true
+unfolding all
+all-none p = refl
+
+pub all-next : (n : ℕ) (p : ℕ → Bool) → all n p ≡ true → p n ≡ true → all (n + 1) p ≡ true
+unfolding all
+all-next n p h k = rw (add-one n, h, k)
+
+pub all-stop : (m : ℕ) (p : ℕ → Bool) (i : ℕ) → i < m → p i ≡ false → all m p ≡ false
+all-stop m p i h k = by (all m p) (λ t. all-at m p t i h)
+  where
+    by : (b : Bool) → (T b → T (p i)) → b ≡ false
+    by true f = absurd (subst T k (f tt))
+    by false f = refl
 
 -- of every entry of a list
 pub every-at : {A : Type 0} (p : A → Bool) (d : A) (xs : List A) → T (every p xs) → (k : ℕ) → k < length xs → T (p (getD xs k d))

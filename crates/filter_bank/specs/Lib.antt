@@ -1,2 +1,3 @@
 pub mod Analysis
 pub mod Streams
+pub mod StreamLaws

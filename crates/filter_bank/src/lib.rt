@@ -1,4 +1,9 @@
 // The public calls: every check and refusal of document 01, in its order, and nothing else. The work is in the crates below.
+// No call has a requires: any numbers and any buffer lengths may be handed in.
+mod checks;
+
+ghost use mathlib.Core.Path.{_≡_};
+ghost use Rattle.filter_bank.specs.Streams.{fresh, step, stepOut};
 use stream::Stream;
 
 // How a block is analysed.
@@ -17,4 +22,47 @@ pub struct Made {
 pub struct Stepped {
     pub code: u32,
     pub stream: Stream,
+}
+
+// A fresh stream for blocks of n samples. 1: n is not tabled, and N and every tail entry are 0.
+pub fn fresh(n: usize) -> Made
+    ensures { λ r. ⌜ r ≡ fresh n ⌝ }
+{
+    if cosine::is_tabled(n) {
+        Made {
+            code: 0,
+            stream: stream::fresh(n),
+        }
+    } else {
+        Made {
+            code: 1,
+            stream: stream::fresh(0),
+        }
+    }
+}
+
+// One step of the synthesis stream: M coefficients in, a hop of M samples out. 4: the stream handed in is not sound. 2: a buffer's
+// length is not M. 3: a coefficient is out of range. Refused, the stream comes back as it was, and `out` is left alone.
+pub fn step(s: Stream, x: &[i32], out: &mut [i16]) -> Stepped
+    ensures { λ r. ⌜ (r ≡ step s (now (x .entry)) (now (out .entry))) × (now (out .exit) ≡ stepOut s (now (x .entry)) (now (out .entry))) ⌝ }
+{
+    let n = s.n;
+    let tail = s.tail;
+    if !checks::is_sound(n, &tail) {
+        return Stepped { code: 4, stream: s };
+    }
+    if x.len() != n / 2 {
+        return Stepped { code: 2, stream: s };
+    }
+    if out.len() != n / 2 {
+        return Stepped { code: 2, stream: s };
+    }
+    if !checks::in_range(x) {
+        return Stepped { code: 3, stream: s };
+    }
+    let next = stream::advance(s, x, out);
+    Stepped {
+        code: 0,
+        stream: next,
+    }
 }

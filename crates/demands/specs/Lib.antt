@@ -1,0 +1,9 @@
+pub mod Steps
+pub mod StepLaws
+pub mod RunLaws
+pub mod RefusalLaws
+pub mod RecordingLaws
+pub mod StreamLaws
+pub mod ThereAndBackLaws
+pub mod Example
+pub mod ExampleLaws

@@ -1,0 +1,131 @@
+-- Laws of the blocks of a recording: two that follow each other share a hop, and what is brought for one is near its direct coefficients.
+use mathlib.Core.Path.{_≡_, _∙_}
+use mathlib.Core.List.{List}
+use Prim.Native.Nat.{ℕ, suc, _+_, _*_, _/_, _≤_, _<_, _^_}
+use native.Mathlib.Nat.{le-trans, mul-le-mul-right}
+use native.Mathlib.Omega.{arith}
+use lib.Dec.{T}
+use lib.ListN.{length, drop}
+use lib.Seq.{getD-take, getD-drop}
+use lib.IntN.{ℤ, pos, natAbs, _-ℤ_, _+ℤ_}
+use Rattle.arithmetic.specs.Lists.{at}
+use Rattle.arithmetic.specs.Rounding.{rnd, clamp}
+use Rattle.arithmetic.specs.ListLaws.{getD-table}
+use Rattle.arithmetic.specs.OrderLaws.{abs-via}
+use Rattle.arithmetic.specs.RoundingLaws.{Sample, sample-abs}
+use Rattle.cosine.specs.Kernels.{tabled, rising, falling}
+use Rattle.cosine.specs.LengthLaws.{Part, part-of}
+use Rattle.cosine.specs.KernelLaws.{W-size}
+use Rattle.transform.specs.Analysis.{y, X, direct}
+use Rattle.transform.specs.ShortRoute.{shortX, short}
+use Rattle.transform.specs.Synthesis.{V′}
+use Rattle.transform.specs.SizeLaws.{y-size}
+use Rattle.transform.specs.ShortLaws.{within-16}
+use Rattle.reconstruction.specs.Neighbours.{Neighbours}
+use Rattle.reconstruction.specs.DistanceLaws.{sine-neighbours, returned-each, returned-same}
+use Rattle.filter_bank.specs.declared.Route.{Route}
+use Rattle.filter_bank.specs.declared.Route.the-variants.{Direct, Short}
+use Rattle.filter_bank.specs.Analysis.{spectrum, coefficients}
+use Rattle.demands.specs.Steps.{Recording, block, Brought, change}
+
+-- ---- the change that is allowed where two blocks meet is no less than that of each
+pub change-first : (Q : ℕ) (r r′ : Route) → change Q r r ≤ change Q r r′
+unfolding change
+change-first Q Direct Direct = omega arith
+change-first Q Direct Short = omega arith
+change-first Q Short Direct = omega arith
+change-first Q Short Short = omega arith
+
+pub change-second : (Q : ℕ) (r r′ : Route) → change Q r′ r′ ≤ change Q r r′
+unfolding change
+change-second Q Direct Direct = omega arith
+change-second Q Direct Short = omega arith
+change-second Q Short Direct = omega arith
+change-second Q Short Short = omega arith
+
+pub change-direct : (Q : ℕ) (r r′ : Route) → r ≡ Direct → r′ ≡ Direct → change Q r r′ ≡ Q
+unfolding change
+change-direct Q r r′ e f = rw (e, f)
+
+-- ---- the two halves of the window
+pub rising-size : (N n : ℕ) → natAbs (rising N n) ≤ 2 ^ 26
+unfolding rising
+rising-size N n = W-size N n
+
+pub falling-size : (N n : ℕ) → natAbs (falling N n) ≤ 2 ^ 26
+unfolding falling
+falling-size N n = W-size N (N / 2 + n)
+
+-- the block x, windowed
+abbrev pub windowed : ℕ → List ℤ → ℕ → ℤ
+windowed N x = y N (rising N) (falling N) x
+
+-- ---- the coefficients by a route, against the direct ones
+module _ (N : ℕ) (x : List ℤ) (k : ℕ) (p : k < N / 2) where
+  by-direct : at (coefficients Direct N x) k ≡ X N (windowed N x) k
+  unfolding coefficients spectrum direct
+  by-direct = getD-table (X N (windowed N x)) (pos 0) (N / 2) k p
+
+  by-short : at (coefficients Short N x) k ≡ shortX N (windowed N x) k
+  unfolding coefficients spectrum short
+  by-short = getD-table (shortX N (windowed N x)) (pos 0) (N / 2) k p
+
+pub near-direct : (N : ℕ) → T (tabled N) → (x : List ℤ) → ((n : ℕ) → n < N → natAbs (windowed N x n) ≤ 2 ^ 23) →
+    (Q : ℕ) (route : Route) (c : ℤ) (k : ℕ) → k < N / 2 → natAbs (c -ℤ at (coefficients route N x) k) ≤ Q → natAbs (c -ℤ X N (windowed N x) k) ≤ change Q route route
+unfolding change
+near-direct N t x y≤ Q Direct c k p h = rw (by-direct N x k p) at h
+near-direct N t x y≤ Q Short c k p h =
+    abs-via c (shortX N (windowed N x) k) (X N (windowed N x) k) (rw (by-short N x k p) at h) (within-16 N t (windowed N x) y≤ k p)
+
+module _ (N : ℕ) (t : T (tabled N)) (H : ℕ) (x : List ℤ) (rec : Recording N H x) where
+  len : Part N
+  len = part-of N t
+
+  -- ---- the samples of a block
+  pub block-at : (b n : ℕ) → n < N → at (block N x b) n ≡ at x (b * (N / 2) + n)
+  unfolding block
+  block-at b n p = getD-take N (drop (b * (N / 2)) x) n (pos 0) p ∙ getD-drop (b * (N / 2)) x n (pos 0)
+
+  block-in : (b n : ℕ) → b + 1 < H → n < N → b * (N / 2) + n < length x
+  block-in b n p q = omega (arith, rec .long, len .four, mul-le-mul-right (N / 2) p)
+
+  pub block-sample : (b : ℕ) → b + 1 < H → (n : ℕ) → n < N → Sample (at (block N x b) n)
+  block-sample b p n q = rw (block-at b n q) (rec .sample (b * (N / 2) + n) (block-in b n p q))
+
+  pub windowed-size : (b : ℕ) → b + 1 < H → (n : ℕ) → n < N → natAbs (windowed N (block N x b) n) ≤ 2 ^ 23
+  windowed-size b p = y-size N (rising N) (falling N) len (λ n q. rising-size N n) (λ n q. falling-size N n) (block N x b) (λ n q. sample-abs (block-sample b p n q))
+
+  -- blocks b and b + 1
+  pub neighbours : (b : ℕ) → suc b + 1 < H → Neighbours N (rising N) (falling N) (rising N) (falling N) (block N x b) (block N x (suc b))
+  neighbours b p = sine-neighbours N t (block N x b) (block N x (suc b)) (block-sample b (omega arith)) (block-sample (suc b) p) shared
+    where
+      shared : (n : ℕ) → n < N / 2 → at (block N x b) (N / 2 + n) ≡ at (block N x (suc b)) n
+      shared n q =
+          let e : b * (N / 2) + (N / 2 + n) ≡ suc b * (N / 2) + n = omega arith in
+          rw (block-at b (N / 2 + n) (omega (arith, len .four)), block-at (suc b) n (omega (arith, len .four)), e)
+
+  -- ---- the hop that they share
+  module _ (Q : ℕ) (routes : ℕ → Route) (b : ℕ) (c₁ c₂ : List ℤ) (brought₁ : Brought N H Q routes x b c₁) (brought₂ : Brought N H Q routes x (suc b) c₂) where
+    abbrev Q′ : ℕ
+    Q′ = change Q (routes b) (routes (suc b))
+
+    -- the sample that comes back at place n
+    abbrev back : ℕ → ℤ
+    back n = clamp (rnd (V′ N (rising N) (falling N) c₁ (N / 2 + n) +ℤ V′ N (rising N) (falling N) c₂ n) (N * 2 ^ 30))
+
+    nb : Neighbours N (rising N) (falling N) (rising N) (falling N) (block N x b) (block N x (suc b))
+    nb = neighbours b (brought₂ .covered)
+
+    near₁ : (k : ℕ) → k < N / 2 → natAbs (at c₁ k -ℤ X N (windowed N (block N x b)) k) ≤ Q′
+    near₁ k p = le-trans (near-direct N t (block N x b) (windowed-size b (brought₁ .covered)) Q (routes b) (at c₁ k) k p (brought₁ .near k p)) (change-first Q (routes b) (routes (suc b)))
+
+    near₂ : (k : ℕ) → k < N / 2 → natAbs (at c₂ k -ℤ X N (windowed N (block N x (suc b))) k) ≤ Q′
+    near₂ k p = le-trans (near-direct N t (block N x (suc b)) (windowed-size (suc b) (brought₂ .covered)) Q (routes (suc b)) (at c₂ k) k p (brought₂ .near k p)) (change-second Q (routes b) (routes (suc b)))
+
+    pub back-near : (n : ℕ) → n < N / 2 → natAbs (back n -ℤ at x (suc b * (N / 2) + n)) ≤ (Q′ + 8) / 16
+    back-near n p = rw (← (block-at (suc b) n (omega arith))) (returned-each N t nb Q′ c₁ c₂ near₁ near₂ n p)
+
+    pub back-same : Q ≤ 7 → routes b ≡ Direct → routes (suc b) ≡ Direct → (n : ℕ) → n < N / 2 → back n ≡ at x (suc b * (N / 2) + n)
+    back-same q e f n p =
+        let g : Q′ ≤ 7 = rw (change-direct Q (routes b) (routes (suc b)) e f) q in
+        rw (← (block-at (suc b) n (omega arith))) (returned-same N t nb Q′ c₁ c₂ near₁ near₂ g n p)

@@ -1,0 +1,123 @@
+-- Demand 3 for a list of synthesis steps on one stream: definitions. Document 01, 'Sound there and back'. That they hold together is
+-- `there-and-back` of ThereAndBackLaws. `fresh`, `step`, `stepOut` and `coefficients` are those that the public calls' contracts cite.
+use mathlib.Core.Path.{_≡_}
+use mathlib.Core.Logic.{_≢_}
+use mathlib.Core.Bool.{cond}
+use mathlib.Core.List.{List, [], _∷_}
+use Prim.Native.Nat.{ℕ, suc, _+_, _-_, _*_, _/_, _≤_, _<_}
+use lib.Dec.{eqb}
+use lib.ListN.{length, take, drop, replicate}
+use lib.IntN.{ℤ, pos, natAbs, _-ℤ_}
+use Rattle.arithmetic.specs.Lists.{at}
+use Rattle.arithmetic.specs.RoundingLaws.{Sample}
+use Rattle.transform.specs.ShortRoute.{units}
+use Rattle.stream.specs.Synthesis.{storage}
+use Rattle.stream.specs.declared.Stream.{Stream}
+use Rattle.filter_bank.specs.declared.Route.{Route}
+use Rattle.filter_bank.specs.declared.Route.the-variants.{Direct, Short}
+use Rattle.filter_bank.specs.declared.Stepped.{Stepped}
+use Rattle.filter_bank.specs.Analysis.{coefficients}
+use Rattle.filter_bank.specs.Streams.{fresh, step, stepOut}
+
+-- ---- the list of steps
+-- what one call of `step` is handed besides the stream: coefficients and a buffer, of any lengths
+pub record Offer : Type 0 where
+  pub brought : List ℤ
+  pub buffer : List ℤ
+
+-- one step of the list: the stream handed in, the offer, the answer, and what the buffer holds as the step ends
+pub record Turn : Type 0 where
+  pub handed : Stream
+  pub offer : Offer
+  pub answer : Stepped
+  pub output : List ℤ
+
+unfoldable pub answered : Stream → Offer → Turn
+answered s o = record {
+  handed = s;
+  offer = o;
+  answer = step s (o .brought) (o .buffer);
+  output = stepOut s (o .brought) (o .buffer);
+}
+
+-- every step is handed the stream that the step before gave back, taken or refused
+unfoldable pub run : Stream → List Offer → List Turn
+run s [] = []
+run s (o ∷ offers) = answered s o ∷ run (answered s o .answer .stream) offers
+
+-- the stream after the list
+unfoldable pub after : Stream → List Offer → Stream
+after s [] = s
+after s (o ∷ offers) = after (answered s o .answer .stream) offers
+
+-- a step is taken if it returns 0: the taken ones, in their order
+unfoldable pub taken : List Turn → List Turn
+taken [] = []
+taken (t ∷ turns) = cond (eqb (t .answer .code) 0) (t ∷ taken turns) (taken turns)
+
+-- what was offered at each of the steps
+unfoldable pub offers-of : List Turn → List Offer
+offers-of [] = []
+offers-of (t ∷ turns) = t .offer ∷ offers-of turns
+
+-- the list starts from a fresh stream
+unfoldable pub turns : ℕ → List Offer → List Turn
+turns N offers = run (fresh N .stream) offers
+
+unfoldable pub final : ℕ → List Offer → Stream
+final N offers = after (fresh N .stream) offers
+
+-- a is entry i of a list, counted from 0
+pub data Entry {A : Type 0} : List A → ℕ → A → Type 0 where
+  first : {a : A} {l : List A} → Entry (a ∷ l) 0 a
+  later : {a b : A} {l : List A} {i : ℕ} → Entry l i a → Entry (b ∷ l) (suc i) a
+
+-- ---- the recording
+-- x is a recording of H hops of M samples
+pub record Recording (N H : ℕ) (x : List ℤ) : Type 0 where
+  pub hops : 2 ≤ H
+  pub long : length x ≡ H * (N / 2)
+  pub sample : (i : ℕ) → i < length x → Sample (at x i)
+
+-- block b covers hops b and b + 1
+unfoldable pub block : ℕ → List ℤ → ℕ → List ℤ
+block N x b = take N (drop (b * (N / 2)) x)
+
+-- c are the M coefficients of block b of x, analysed by its own route, each changed by a whole number from -Q to Q. That they are in range isn't
+-- asked: a step that takes them says so
+pub record Brought (N H Q : ℕ) (routes : ℕ → Route) (x : List ℤ) (b : ℕ) (c : List ℤ) : Type 0 where
+  pub covered : b + 1 < H
+  pub long : length c ≡ N / 2
+  pub near : (k : ℕ) → k < N / 2 → natAbs (at c k -ℤ at (coefficients (routes b) N (block N x b)) k) ≤ Q
+
+-- the taken steps bring blocks 0, 1, 2 .. in their order. Nothing is said of the refused ones
+pub record InOrder (N H Q : ℕ) (routes : ℕ → Route) (x : List ℤ) (offers : List Offer) : Type 0 where
+  pub each : (j : ℕ) (t : Turn) → Entry (taken (turns N offers)) j t → Brought N H Q routes x j (t .offer .brought)
+
+-- ---- the claim
+-- what Q stands for where two blocks meet: the short route adds its units
+unfoldable pub change : ℕ → Route → Route → ℕ
+change Q Direct Direct = Q
+change Q Direct Short = Q + units
+change Q Short Direct = Q + units
+change Q Short Short = Q + units
+
+-- about the list as a whole
+pub record Returned (N Q : ℕ) (routes : ℕ → Route) (x : List ℤ) (offers : List Offer) : Type 0 where
+  -- the stream was made, and no step returns 4
+  pub made : fresh N .code ≡ 0
+  pub no-four : (i : ℕ) (t : Turn) → Entry (turns N offers) i t → t .answer .code ≢ 4
+  -- a refused step leaves the stream and the buffer as they were
+  pub refused-stream : (i : ℕ) (t : Turn) → Entry (turns N offers) i t → t .answer .code ≢ 0 → t .answer .stream ≡ t .handed
+  pub refused-buffer : (i : ℕ) (t : Turn) → Entry (turns N offers) i t → t .answer .code ≢ 0 → t .output ≡ t .offer .buffer
+  -- a taken one returns a hop of M samples
+  pub hop-long : (j : ℕ) (t : Turn) → Entry (taken (turns N offers)) j t → length (t .output) ≡ N / 2
+  -- the taken step that brings block b + 1 returns the hop which blocks b and b + 1 share
+  pub hop-near : (b : ℕ) (t : Turn) → Entry (taken (turns N offers)) (suc b) t → (n : ℕ) → n < N / 2 →
+      natAbs (at (t .output) n -ℤ at x (suc b * (N / 2) + n)) ≤ (change Q (routes b) (routes (suc b)) + 8) / 16
+  pub hop-same : (b : ℕ) (t : Turn) → Entry (taken (turns N offers)) (suc b) t → Q ≤ 7 → routes b ≡ Direct → routes (suc b) ≡ Direct →
+      (n : ℕ) → n < N / 2 → at (t .output) n ≡ at x (suc b * (N / 2) + n)
+  -- the stream after the list is one of N, and its storage from M on is zero
+  pub final-n : final N offers .n ≡ N
+  pub final-long : length (final N offers .tail) ≡ storage
+  pub final-zero : drop (N / 2) (final N offers .tail) ≡ replicate (storage - N / 2) (pos 0)

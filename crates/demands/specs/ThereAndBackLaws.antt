@@ -1,0 +1,159 @@
+-- Demand 3 for a list of synthesis steps, the theorem: `there-and-back`. One induction over the list says what every turn does, a second what the hops are.
+use mathlib.Core.Path.{_≡_, refl}
+use mathlib.Core.Logic.{_≢_}
+use mathlib.Core.List.{List, [], _∷_}
+use Prim.Native.Nat.{ℕ, suc, _+_, _*_, _/_, _^_, _≤_, _<_}
+use native.Mathlib.Omega.{arith}
+use native.Mathlib.Decide.{ℕ-discrete}
+use lib.Dec.{T}
+use lib.ListN.{length}
+use lib.IntN.{ℤ, natAbs, _-ℤ_, _+ℤ_}
+use Rattle.arithmetic.specs.Lists.{at}
+use Rattle.arithmetic.specs.Rounding.{rnd, clamp}
+use Rattle.cosine.specs.Kernels.{tabled, rising, falling}
+use Rattle.transform.specs.Synthesis.{V′}
+use Rattle.stream.specs.declared.Stream.{Stream}
+use Rattle.filter_bank.specs.declared.Route.{Route}
+use Rattle.filter_bank.specs.declared.Route.the-variants.{Direct}
+use Rattle.filter_bank.specs.Streams.{fresh, hop}
+use Rattle.demands.specs.Steps.{Offer, Turn, answered, run, taken, turns, final, Entry, Recording, Brought, InOrder, change, Returned}
+use Rattle.demands.specs.Steps.Entry.{first, later}
+use Rattle.demands.specs.StepLaws.{taken-buffer}
+use Rattle.demands.specs.RunLaws.{code, answered-code, refused-stream, refused-buffer, run-taken, run-refused, no-entry, entry-taken}
+use Rattle.demands.specs.RecordingLaws.{back-near, back-same}
+use Rattle.demands.specs.StreamLaws.{Fine, fresh-is, fine-fresh, fine-four, fine-answered, fine-after, taken-next, hop-long, hop-at, next-at}
+
+taken-output : (s : Stream) (o : Offer) → code s o ≡ 0 → answered s o .output ≡ hop s (o .brought)
+unfolding answered
+taken-output s o e = taken-buffer s (o .brought) (o .buffer) e
+
+module _ (N : ℕ) (t : T (tabled N)) where
+  -- ---- every turn of a list, whatever was offered
+  record Turned (u : Turn) : Type 0 where
+    no-four : u .answer .code ≢ 4
+    kept-stream : u .answer .code ≢ 0 → u .answer .stream ≡ u .handed
+    kept-buffer : u .answer .code ≢ 0 → u .output ≡ u .offer .buffer
+    long : u .answer .code ≡ 0 → length (u .output) ≡ N / 2
+
+  turned : (s : Stream) → Fine N s → (o : Offer) → Turned (answered s o)
+  unfolding answered
+  turned s fine o = rw (answered-code s o) (record {
+    no-four = fine-four N t s fine (o .brought) (o .buffer);
+    kept-stream = refused-stream s o;
+    kept-buffer = refused-buffer s o;
+    long = λ e. rw (taken-output s o e) (hop-long N s (fine .n-is) (o .brought));
+  })
+
+  every-turn : (offers : List Offer) (s : Stream) → Fine N s → (i : ℕ) (u : Turn) → Entry (run s offers) i u → Turned u
+  unfolding run
+  every-turn [] s fine i u e = absurd (no-entry e refl)
+  every-turn (o ∷ offers) s fine i u first = turned s fine o
+  every-turn (o ∷ offers) s fine i u (later {i = k} e) = every-turn offers (answered s o .answer .stream) (fine-answered N t s fine o) k u e
+
+  module _ (H Q : ℕ) (routes : ℕ → Route) (x : List ℤ) (rec : Recording N H x) where
+    -- ---- the hops. A stream before the step that brings block j: its tail is what block j - 1 left
+    record Before (b : ℕ) (s : Stream) : Type 0 where
+      c : List ℤ
+      brought : Brought N H Q routes x b c
+      left : (n : ℕ) → n < N / 2 → at (s .tail) n ≡ V′ N (rising N) (falling N) c (N / 2 + n)
+
+    record State (j : ℕ) (s : Stream) : Type 0 where
+      fine : Fine N s
+      before : (b : ℕ) → j ≡ suc b → Before b s
+
+    -- what the turn u that brings block b + 1 returns
+    record Kept (b : ℕ) (u : Turn) : Type 0 where
+      near : (n : ℕ) → n < N / 2 → natAbs (at (u .output) n -ℤ at x (suc b * (N / 2) + n)) ≤ (change Q (routes b) (routes (suc b)) + 8) / 16
+      same : Q ≤ 7 → routes b ≡ Direct → routes (suc b) ≡ Direct → (n : ℕ) → n < N / 2 → at (u .output) n ≡ at x (suc b * (N / 2) + n)
+
+    module _ (s : Stream) (o : Offer) (zero-code : code s o ≡ 0) where
+      kept : (b : ℕ) → State (suc b) s → Brought N H Q routes x (suc b) (o .brought) → Kept b (answered s o)
+      kept b st brought =
+          let v = st .before b refl in
+          record {
+            near = λ n p. rw (is v n p) (back-near N t H x rec Q routes b (v .c) (o .brought) (v .brought) brought n p);
+            same = λ q e f n p. rw (is v n p) (back-same N t H x rec Q routes b (v .c) (o .brought) (v .brought) brought q e f n p);
+          }
+        where
+          is : (v : Before b s) (n : ℕ) → n < N / 2 →
+              at (answered s o .output) n ≡ clamp (rnd (V′ N (rising N) (falling N) (v .c) (N / 2 + n) +ℤ V′ N (rising N) (falling N) (o .brought) n) (N * 2 ^ 30))
+          is v n p = rw (taken-output s o zero-code, hop-at N s (st .fine .n-is) (o .brought) n p, v .left n p)
+
+      state-next : (j : ℕ) → State j s → Brought N H Q routes x j (o .brought) → State (suc j) (answered s o .answer .stream)
+      state-next j st brought = record {
+        fine = fine-answered N t s (st .fine) o;
+        before = λ b e. record {
+          c = o .brought;
+          brought = let f : b ≡ j = omega arith in rw f brought;
+          left = rw (taken-next N t s (st .fine) o zero-code) (next-at N s (st .fine .n-is) (o .brought));
+        };
+      }
+
+    -- ---- the taken turns of the rest of a list, from block j on
+    record Bring (j : ℕ) (us : List Turn) : Type 0 where
+      each : (i : ℕ) (u : Turn) → Entry us i u → Brought N H Q routes x (j + i) (u .offer .brought)
+
+    record Keep (j : ℕ) (us : List Turn) : Type 0 where
+      each : (i : ℕ) (u : Turn) → Entry us i u → (b : ℕ) → j + i ≡ suc b → Kept b u
+
+    bring-first : (j : ℕ) (u : Turn) (us : List Turn) → Bring j (u ∷ us) → Brought N H Q routes x j (u .offer .brought)
+    bring-first j u us br = let e : j + 0 ≡ j = omega arith in rw e at (br .each 0 u first)
+
+    bring-later : (j : ℕ) (u : Turn) (us : List Turn) → Bring j (u ∷ us) → Bring (suc j) us
+    bring-later j u us br = record { each = λ i v e. let f : suc j + i ≡ j + suc i = omega arith in rw f (br .each (suc i) v (later e)) }
+
+    keep-none : (j : ℕ) → Keep j []
+    keep-none j = record { each = λ i u e. absurd (no-entry e refl) }
+
+    keep-cons : (j : ℕ) (u : Turn) (us : List Turn) → ((b : ℕ) → j ≡ suc b → Kept b u) → Keep (suc j) us → Keep j (u ∷ us)
+    keep-cons j u us k ks = record { each = go }
+      where
+        go : (i : ℕ) (v : Turn) → Entry (u ∷ us) i v → (b : ℕ) → j + i ≡ suc b → Kept b v
+        go i v first b e = k b (omega arith)
+        go i v (later {i = l} h) b e = ks .each l v h b (omega arith)
+
+    hops : (offers : List Offer) (s : Stream) (j : ℕ) → State j s → Bring j (taken (run s offers)) → Keep j (taken (run s offers))
+    unfolding run taken
+    hops [] s j st br = keep-none j
+    hops (o ∷ offers) s j st br = go (ℕ-discrete (code s o) 0) (hops offers)
+      where
+        go : Dec (code s o ≡ 0) → ((s : Stream) (j : ℕ) → State j s → Bring j (taken (run s offers)) → Keep j (taken (run s offers))) → Keep j (taken (run s (o ∷ offers)))
+        go (no r) ih = rw (run-refused s o offers r) (ih s j st (rw (run-refused s o offers r) at br))
+        go (yes z) ih =
+            let s′ = answered s o .answer .stream in
+            let us = taken (run s′ offers) in
+            let br′ : Bring j (answered s o ∷ us) = rw (run-taken s o offers z) at br in
+            let now : Brought N H Q routes x j (o .brought) = unfold answered in bring-first j (answered s o) us br′ in
+            rw (run-taken s o offers z)
+            (keep-cons j (answered s o) us (λ b e. kept s o z b (rw e at st) (rw e at now))
+            (ih s′ (suc j) (state-next s o z j st now) (bring-later j (answered s o) us br′)))
+
+    state-fresh : State 0 (fresh N .stream)
+    state-fresh = record { fine = fine-fresh N t; before = λ b e. absurd (omega arith) }
+
+    all-hops : (offers : List Offer) → InOrder N H Q routes x offers → Keep 0 (taken (turns N offers))
+    unfolding turns
+    all-hops offers order =
+        hops offers (fresh N .stream) 0 state-fresh
+        (record { each = λ i u e. let f : 0 + i ≡ i = omega arith in rw f (order .each i u e) })
+
+-- the claim about the list as a whole: N is tabled, x is a recording, and the taken steps bring its blocks in their order, changed by at most Q
+pub there-and-back : (N : ℕ) → T (tabled N) → (H Q : ℕ) (routes : ℕ → Route) (x : List ℤ) → Recording N H x →
+    (offers : List Offer) → InOrder N H Q routes x offers → Returned N Q routes x offers
+unfolding turns final
+there-and-back N t H Q routes x rec offers order =
+    let each = every-turn N t offers (fresh N .stream) (fine-fresh N t) in
+    let hop = all-hops N t H Q routes x rec offers order .each in
+    let last = fine-after N t offers (fresh N .stream) (fine-fresh N t) in
+    record {
+      made = rw (fresh-is N t);
+      no-four = λ i u e. each i u e .no-four;
+      refused-stream = λ i u e. each i u e .kept-stream;
+      refused-buffer = λ i u e. each i u e .kept-buffer;
+      hop-long = λ j u e. let f = entry-taken (run (fresh N .stream) offers) j u e in each (f .place) u (f .entry) .long (f .zero-code);
+      hop-near = λ b u e. hop (suc b) u e b (omega arith) .near;
+      hop-same = λ b u e. hop (suc b) u e b (omega arith) .same;
+      final-n = last .n-is;
+      final-long = last .long;
+      final-zero = last .zeros;
+    }

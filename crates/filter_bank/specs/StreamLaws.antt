@@ -1,0 +1,86 @@
+-- Laws of `step`: its number by its causes, and what follows from the number.
+use mathlib.Core.Path.{_≡_, refl}
+use mathlib.Core.Bool.{Bool, true, false}
+use mathlib.Core.List.{List}
+use Prim.Native.Nat.{ℕ, _*_, _/_, _^_, _≤_}
+use lib.Dec.{T, eqb}
+use lib.ListN.{length}
+use lib.IntN.{ℤ, pos, negℤ, natAbs}
+use lib.Signed.{leZ, leZ-yes}
+use borrow.Author.Tests.{eq-eqb, ne-eqb}
+use Rattle.arithmetic.specs.Lists.{at, all, Small}
+use Rattle.arithmetic.specs.OrderLaws.{abs-le}
+use Rattle.arithmetic.specs.TestLaws.{all-at, both-left, both-right}
+use Rattle.cosine.specs.Kernels.{tabled}
+use Rattle.stream.specs.declared.Stream.{Stream}
+use Rattle.stream.specs.StepLaws.{Bounded}
+use Rattle.filter_bank.specs.Streams.{within, coefficientLimit, tailLimit, soundTail, sound, inRange, stepCode, next, hop, step, stepOut}
+
+-- ---- a number within the limit, as a size
+pub within-abs : (z : ℤ) (b : ℕ) → T (within z b) → natAbs z ≤ b
+unfolding within
+within-abs z b t =
+    let lo = both-left (leZ (negℤ (pos b)) z) (leZ z (pos b)) t in
+    let hi = both-right (leZ (negℤ (pos b)) z) (leZ z (pos b)) t in
+    abs-le z b .1 (leZ-yes hi, leZ-yes lo)
+
+is-T : {b : Bool} → b ≡ true → T b
+is-T e = rw e tt
+
+pub range-small : (x : List ℤ) → inRange (length x) x ≡ true → Small x (2 ^ 29)
+unfolding inRange
+range-small x e = record { small = λ k p. within-abs (at x k) coefficientLimit (all-at (length x) (λ k. within (at x k) coefficientLimit) (is-T e) k p) }
+
+pub tail-bounded : (M : ℕ) (tail : List ℤ) → all M (λ i. within (at tail i) (tailLimit M)) ≡ true → Bounded M tail
+unfolding tailLimit
+tail-bounded M tail e =
+    record { within = λ i p. within-abs (at tail i) (M * 2 ^ 55) (all-at M (λ i. within (at tail i) (M * 2 ^ 55)) (is-T e) i p) }
+
+pub sound-tabled : (s : Stream) → sound s ≡ true → T (tabled (s .n))
+unfolding sound
+sound-tabled s e = both-left (tabled (s .n)) (soundTail s) (is-T e)
+
+pub sound-bounded : (s : Stream) → sound s ≡ true → Bounded (s .n / 2) (s .tail)
+unfolding sound soundTail
+sound-bounded s e = tail-bounded (s .n / 2) (s .tail) (is-true (both-right (tabled (s .n)) (soundTail s) (is-T e)))
+  where
+    is-true : {b : Bool} → T b → b ≡ true
+    is-true {b = true} t = refl
+    is-true {b = false} t = absurd t
+
+-- ---- the number, by the causes in their order
+module _ (s : Stream) (x out : List ℤ) where
+  abbrev M : ℕ
+  M = s .n / 2
+
+  pub step-4 : sound s ≡ false → stepCode s x out ≡ 4
+  unfolding stepCode
+  step-4 a = rw a
+
+  module _ (a : sound s ≡ true) where
+    pub step-2-in : ¬ (length x ≡ M) → stepCode s x out ≡ 2
+    unfolding stepCode
+    step-2-in b = rw (a, ne-eqb (length x) M b)
+
+    module _ (b : length x ≡ M) where
+      pub step-2-out : ¬ (length out ≡ M) → stepCode s x out ≡ 2
+      unfolding stepCode
+      step-2-out c = rw (a, eq-eqb (length x) M b, ne-eqb (length out) M c)
+
+      module _ (c : length out ≡ M) where
+        pub step-3 : inRange (length x) x ≡ false → stepCode s x out ≡ 3
+        unfolding stepCode
+        step-3 e = rw (a, eq-eqb (length x) M b, eq-eqb (length out) M c, rw b at e)
+
+        pub step-0 : inRange (length x) x ≡ true → stepCode s x out ≡ 0
+        unfolding stepCode
+        step-0 e = rw (a, eq-eqb (length x) M b, eq-eqb (length out) M c, rw b at e)
+
+  -- ---- what follows from it
+  pub refused : (c : ℕ) → eqb c 0 ≡ false → stepCode s x out ≡ c → (record { code = c; stream = s } ≡ step s x out) × (out ≡ stepOut s x out)
+  unfolding step stepOut
+  refused c n e = (rw (e, n), rw (e, n))
+
+  pub taken : stepCode s x out ≡ 0 → (record { code = 0; stream = next s x } ≡ step s x out) × (hop s x ≡ stepOut s x out)
+  unfolding step stepOut
+  taken e = (rw e, rw e)

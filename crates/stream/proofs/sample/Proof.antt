@@ -1,0 +1,41 @@
+-- `sample` meets its contract: the tail and V make at most N × 2^55, which fits.
+use mathlib.Core.Path.{_≡_, ap, _∙_}
+use Prim.Native.Nat.{_*_, _^_}
+use native.Mathlib.Omega.{arith}
+use lib.IntN.{ℤ, _+ℤ_}
+use mir.Syntax.{w16, w64}
+use mir.Val.{SFits, toZ, ofZ}
+use mir.Facts.{toZ-ofZ}
+use Rattle.arithmetic.specs.Rounding.{rnd, clamp}
+use Rattle.arithmetic.specs.OrderLaws.{sfits-abs, abs-add}
+use borrow.Author.Needs.{needs}
+use Rattle.stream.proofs.sample.Statement.{statement}
+use Rattle.stream.proofs.sample.Tie as tie
+
+-- the sum, as the machine has it
+module _ (c : tie.Start) where
+  sum-fits : SFits w64 (c .args .tail +ℤ c .args .v)
+  sum-fits = sfits-abs (c .args .tail +ℤ c .args .v) (omega (arith, abs-add (c .args .tail) (c .args .v), c .pre .1, c .pre .2, c .pre .3))
+
+  sum-is : toZ w64 (ofZ w64 (toZ w64 (ofZ w64 (c .args .tail)) +ℤ toZ w64 (ofZ w64 (c .args .v)))) ≡ c .args .tail +ℤ c .args .v
+  sum-is = rw (toZ-ofZ (c .fits .tail), toZ-ofZ (c .fits .v)) (toZ-ofZ sum-fits)
+
+add-rnd-scaled : tie.Need-add-rnd-scaled
+add-rnd-scaled c = rw (toZ-ofZ (c .fits .tail), toZ-ofZ (c .fits .v)) (sum-fits c)
+
+rnd-scaled-requires : tie.Need-rnd-scaled-requires
+rnd-scaled-requires c κs = search needs
+
+clamp-requires : tie.Need-clamp-requires
+clamp-requires c κs = search needs
+
+returns : tie.Need-returns
+returns c =
+    let s = c .before .before in
+    let r = c .before .rnd-scaled in
+    toZ-ofZ {w = w16} {z = c .clamp .result} (record { sfits = c .clamp .ok })
+    ∙ c .clamp .ensures
+    ∙ ap clamp (toZ-ofZ {w = w64} {z = r .result} (record { sfits = r .ok }) ∙ r .ensures ∙ ap (λ (z : ℤ). rnd z (s .args .n * 2 ^ 30)) (sum-is s))
+
+pub sample-spec : {M : Type 1} → statement M
+sample-spec = tie.close (tie.spec add-rnd-scaled rnd-scaled-requires clamp-requires returns)

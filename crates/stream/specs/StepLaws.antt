@@ -1,0 +1,62 @@
+-- Laws of one step on valid input: the tail's limit, and what the code leaves.
+use mathlib.Core.Path.{_≡_, ap, _∙_}
+use mathlib.Core.List.{List, _++_}
+use Prim.Native.Nat.{ℕ, _+_, _*_, _/_, _^_, _≤_, _<_}
+use native.Mathlib.Omega.{arith}
+use lib.Dec.{T}
+use lib.ListN.{length, drop, List·getD-append}
+use lib.IntN.{ℤ, pos, natAbs, _+ℤ_}
+use Rattle.arithmetic.specs.Rounding.{rnd, clamp}
+use Rattle.arithmetic.specs.Lists.{at, table}
+use Rattle.arithmetic.specs.ListLaws.{table-ext, getD-table, length-table}
+use Rattle.cosine.specs.Kernels.{tabled, rising, falling}
+use Rattle.cosine.specs.LengthLaws.{length-of, part-of}
+use Rattle.cosine.specs.KernelLaws.{W-size}
+use Rattle.transform.specs.Synthesis.{V′}
+use Rattle.transform.specs.SizeLaws.{V-size}
+use Rattle.stream.specs.Synthesis.{sample, hop, newTail}
+
+-- the first M entries lie within plus or minus M × 2^55
+pub record Bounded (M : ℕ) (xs : List ℤ) : Type 0 where
+  pub within : (i : ℕ) → i < M → natAbs (at xs i) ≤ M * 2 ^ 55
+
+-- ---- V as the code has it: N numbers, and whatever room is left behind them
+module _ (N : ℕ) (t : T (tabled N)) (X vl rest : List ℤ) (small : (k : ℕ) → k < N / 2 → natAbs (at X k) ≤ 2 ^ 29)
+    (is : vl ≡ table N (V′ N (rising N) (falling N) X)) where
+  abbrev values : ℕ → ℤ
+  values = V′ N (rising N) (falling N) X
+
+  two : N / 2 + N / 2 ≡ N
+  two = omega (arith, length-of N t .twelve)
+
+  entry : (i : ℕ) → i < N → at (vl ++ rest) i ≡ values i
+  entry i p =
+      List·getD-append vl rest (pos 0) i (omega (arith, ap length is, length-table values N))
+      ∙ ap (λ (l : List ℤ). at l i) is
+      ∙ getD-table values (pos 0) N i p
+
+  pub values-bounded : Bounded (N / 2) (vl ++ rest)
+  values-bounded = record {
+    within = λ i p. rw (entry i (omega arith))
+        (V-size N (rising N) (falling N) (part-of N t) (λ n q. rise n) (λ n q. fall n) X small i (omega arith));
+  }
+    where
+      rise : (n : ℕ) → natAbs (rising N n) ≤ 2 ^ 26
+      rise n = unfold rising in W-size N n
+
+      fall : (n : ℕ) → natAbs (falling N n) ≤ 2 ^ 26
+      fall n = unfold falling in W-size N (N / 2 + n)
+
+  pub hop-step : (tail out : List ℤ) → out ≡ table (N / 2) (λ i. clamp (rnd (at tail i +ℤ at (vl ++ rest) i) (N * 2 ^ 30))) → out ≡ hop N (rising N) (falling N) tail X
+  unfolding hop sample
+  hop-step tail out h =
+      h
+      ∙ table-ext (N / 2) (λ i. clamp (rnd (at tail i +ℤ at (vl ++ rest) i) (N * 2 ^ 30))) (λ i. clamp (rnd (at tail i +ℤ values i) (N * 2 ^ 30)))
+      (λ i p. ap (λ (z : ℤ). clamp (rnd (at tail i +ℤ z) (N * 2 ^ 30))) (entry i (omega arith)))
+
+  pub tail-step : (tail r : List ℤ) → r ≡ table (N / 2) (λ i. at (vl ++ rest) (N / 2 + i)) ++ drop (N / 2) tail → r ≡ newTail N (rising N) (falling N) tail X
+  unfolding newTail
+  tail-step tail r h =
+      h
+      ∙ ap (λ (l : List ℤ). l ++ drop (N / 2) tail)
+      (table-ext (N / 2) (λ i. at (vl ++ rest) (N / 2 + i)) (λ i. values (N / 2 + i)) (λ i p. entry (N / 2 + i) (omega (arith, two))))

@@ -1,0 +1,107 @@
+"""Prints calls and their answers, one to a line, for differential/: python3 vectors/calls.py [rounds] [seed]
+Fields are parted by semicolons, entries of a list by commas. '=' says that a buffer is left as it was."""
+import random
+import sys
+
+import bank
+from bank import BLOCKS, COEFFICIENT_LIMIT, LENGTHS, ROUTES, STATE, STORAGE, tail_limit
+
+rounds = int(sys.argv[1]) if len(sys.argv) > 1 else 25
+rng = random.Random(int(sys.argv[2]) if len(sys.argv) > 2 else 1)
+
+
+def line(*fields):
+    print(";".join("=" if f is None else ",".join(map(str, f)) if isinstance(f, list) else str(f) for f in fields))
+
+
+def samples(count):
+    top = rng.choice([0, 1, 3, 100, 5000, 32767])
+    shape = rng.randrange(5)
+    if shape == 0:
+        return [rng.choice([-32768, 32767]) for _ in range(count)]
+    if shape == 1:
+        at, size = rng.randrange(max(count, 1)), rng.choice([-32768, -1, 1, 32767])
+        return [size if n == at else 0 for n in range(count)]
+    return [rng.randint(-top - 1, top) for _ in range(count)]
+
+
+def coefficients(count):
+    top = rng.choice([0, 1, 40, 10**4, 10**6, 150994944, COEFFICIENT_LIMIT])
+    if rng.randrange(4) == 0:
+        return [rng.choice([-top, top]) for _ in range(count)]
+    return [rng.randint(-top, top) for _ in range(count)]
+
+
+def spoil(x):
+    """Puts one coefficient beyond its limit."""
+    if x:
+        x[rng.randrange(len(x))] = rng.choice([COEFFICIENT_LIMIT + 1, -COEFFICIENT_LIMIT - 1, 2**31 - 1, -(2**31)])
+    return x
+
+
+def near(length):
+    return max(0, rng.choice([length] * 8 + [length - 1, length + 1, 0, 2 * length]))
+
+
+def state(N):
+    limit = tail_limit(N)
+    top = rng.choice([0, N * 2**29, N * 2**45, limit])
+    tail = [rng.randint(-top, top) for _ in range(N // 2)]
+    case = rng.randrange(12)
+    at = rng.randrange(N // 2)
+    if case == 0:
+        tail[at] = rng.choice([limit, -limit])
+    if case == 1:
+        tail[at] = rng.choice([limit + 1, -limit - 1, 2**63 - 1, -(2**63)])
+    rest = [rng.randint(-(2**63), 2**63 - 1) for _ in range(STORAGE - N // 2)]
+    first = rng.choice([0, 48, -1, -N, N + 2**32, -(2**63)]) if case == 2 else N
+    whole = [first] + tail + rest
+    return whole[:-1] if case == 3 else whole + [7] if case == 4 else whole
+
+
+for t in range(-400, 1300):
+    line("C", t, bank.C(t))
+for N in LENGTHS:
+    for n in range(N):
+        line("W", N, n, bank.W(N, n))
+        for k in range(N // 2):
+            line("K", N, n, k, bank.K(N, n, k))
+    for n in range(N // 3):
+        for k in range(N // 6):
+            line("L", N, n, k, bank.L(N, n, k))
+
+for n in [*range(100), 2**32 + 12, 2**63 + 12, 2**64 - 1]:
+    for length in (0, STATE - 1, STATE, STATE + 1):
+        before = [rng.randint(-(2**63), 2**63 - 1) for _ in range(length)]
+        line("stream_fresh", n, before, *bank.stream_fresh(n, before))
+
+for _ in range(rounds):
+    for N in LENGTHS:
+        M = N // 2
+        n = rng.choice([N] * 9 + [0, 11, 48, 2**64 - 1])
+        for route in ROUTES:
+            x, length = samples(near(N)), near(M)
+            line("analyse", route, n, x, length, *bank.analyse(route, n, x, length))
+            B = rng.choice([1, 2, 3, 5])
+            x, length = samples(near((B + 1) * M)), near(B * M)
+            named = rng.choice([B] * 9 + [0, B + 1, BLOCKS + 1, 2**63, 2**64 - 1])
+            line("analyse_recording", route, n, named, x, length, *bank.analyse_recording(route, n, named, x, length))
+        for _ in range(4):
+            before, x, length = state(N), coefficients(near(M)), near(M)
+            if rng.randrange(6) == 0:
+                spoil(x)
+            line("stream_step", before, x, length, *bank.stream_step(before, x, length))
+        now = bank.stream_fresh(N, [0] * STATE)[1]
+        for _ in range(4):
+            x, length = coefficients(near(M)), near(M)
+            if rng.randrange(6) == 0:
+                spoil(x)
+            number, hop, after = bank.stream_step(now, x, length)
+            line("stream_step", now, x, length, number, hop, after)
+            now = after
+        B = rng.choice([1, 2, 3, 5])
+        x, length = coefficients(near(B * M)), near(B * M)
+        if rng.randrange(6) == 0:
+            spoil(x)
+        named = rng.choice([B] * 9 + [0, B + 1, BLOCKS + 1, 2**63, 2**64 - 1])
+        line("synthesise_recording", n, named, x, length, *bank.synthesise_recording(n, named, x, length))
