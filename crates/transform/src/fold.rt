@@ -22,12 +22,15 @@ fn windowed(half: &[i32], i: usize, x: &[i16], n: usize) -> i32
     arithmetic::rnd_shift(weighted(half[i], x[n]), 18) as i32
 }
 
+// The sign of the mirrored half of the first hop.
+const MIRRORED: i32 = -1;
+
 // Two places of the first hop: a sample less its mirrored one.
 fn difference(left: &[i32], x: &[i16], a: usize, b: usize) -> i32
     requires { ⌜ Small (now left) (2 ^ 26) × (length (now left) ≤ length (now x)) × (a < length (now left)) × (b < length (now left)) ⌝ }
     ensures { λ r. ⌜ (r ≡ windowed (now (left .entry)) a (now (x .entry)) a -ℤ windowed (now (left .entry)) b (now (x .entry)) b) × (natAbs r ≤ 2 ^ 24) ⌝ }
 {
-    windowed(left, a, x, a) - windowed(left, b, x, b)
+    windowed(left, a, x, a) + MIRRORED * windowed(left, b, x, b)
 }
 
 // Two places of the second hop, which starts at m: a sample and its mirrored one, both with the sign changed.

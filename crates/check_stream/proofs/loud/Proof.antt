@@ -1,0 +1,52 @@
+-- `loud` is safe and ends: the loop counts to the length of its array.
+use Prim.Native.Nat.{_-_, _≤_}
+use borrow.Author.Needs.{needs}
+use lib.ListN.{length}
+use mathlib.Core.Path.{_≡_}
+use Rattle.check_stream.proofs.loud.Statement.{statement}
+use Rattle.check_stream.proofs.loud.Tie as tie
+
+abbrev Inv-loop : tie.InvT-loop
+Inv-loop signs x₀ rest₀ k₀ x rest k = (k ≤ 40) × (length x ≡ 40)
+
+abbrev μ-loop : tie.MeasureT-loop
+μ-loop signs x₀ rest₀ k₀ x rest k = 40 - k
+
+loop-holds : tie.Need-loop-holds Inv-loop μ-loop
+loop-holds c = search needs
+
+loudest-requires : tie.Need-loudest-requires Inv-loop μ-loop
+loudest-requires c κs = search needs
+
+mul-x : tie.Need-mul-x Inv-loop μ-loop
+mul-x c = search needs
+
+array-set-from-x : tie.Need-array-set-from-x Inv-loop μ-loop
+array-set-from-x c = search needs
+
+add-k : tie.Need-add-k Inv-loop μ-loop
+add-k c = search needs
+
+loop-less : tie.Need-loop-less Inv-loop μ-loop
+loop-less c = search needs
+
+loop-again : tie.Need-loop-again Inv-loop μ-loop
+loop-again c = search needs
+
+returns : tie.Need-returns Inv-loop μ-loop
+returns c = search needs
+
+pub loud-spec : {M : Type 1} → statement M
+loud-spec =
+    tie.close
+    (tie.spec
+    Inv-loop
+    μ-loop
+    loop-holds
+    loudest-requires
+    mul-x
+    array-set-from-x
+    add-k
+    loop-less
+    loop-again
+    returns)

@@ -1,0 +1,353 @@
+// Streams through the public calls, step after step, compared with what vectors/stream.py makes from the definitions.
+ghost use mathlib.Core.Path.{_≡_};
+ghost use Prim.Native.Nat.{_≤_, _<_, _^_};
+ghost use lib.ListN.{length};
+use stream::Stream;
+
+// Room for a hop of the longest block and for buffers that are too long.
+const ROOM: usize = 40;
+
+// The ends of a coefficient's range, and one beyond.
+const MOST: i32 = 536870912;
+
+const LEAST: i32 = -536870912;
+
+const ABOVE: i32 = 536870913;
+
+const BELOW: i32 = -536870913;
+
+// Bits of all places, of the odd and of the even ones.
+const EVERY: u64 = 1099511627775;
+
+const ODD: u64 = 733007751850;
+
+const EVEN: u64 = 366503875925;
+
+// Blocks of a long stream.
+const BLOCKS: usize = 12;
+
+fn show_out(code: u32, out: &[i16]) {
+    report::word(b"out");
+    report::count(code as usize);
+    for i in 0..out.len() {
+        report::field(out[i] as i64);
+    }
+    report::end();
+}
+
+fn show_stream(n: usize, tail: &[i64; stream::STORAGE]) {
+    report::word(b"stream");
+    report::count(n);
+    for i in 0..stream::STORAGE {
+        report::field(tail[i]);
+    }
+    report::end();
+}
+
+// One step, and what is there afterwards.
+fn told(s: Stream, x: &[i32], out: &mut [i16]) -> Stream {
+    let r = filter_bank::step(s, x, out);
+    show_out(r.code, out);
+    let next = r.stream;
+    let tail = next.tail;
+    show_stream(next.n, &tail);
+    next
+}
+
+fn marks() -> [i16; ROOM]
+    ensures { λ r. ⌜ 40 ≡ length r ⌝ }
+{
+    [12345; ROOM]
+}
+
+// A step on the first m entries of x and a buffer of l marks.
+fn offer(s: Stream, x: [i32; ROOM], m: usize, l: usize) -> Stream
+    requires { ⌜ (m ≤ 40) × (l ≤ 40) ⌝ }
+{
+    let mut out = marks();
+    told(s, &x[..m], &mut out[..l])
+}
+
+// Pseudo-random numbers, and one of -span .. span.
+fn random(seed: u64) -> u64
+    requires { ⌜ seed < 2 ^ 32 ⌝ }
+    ensures { λ r. ⌜ r < 2 ^ 32 ⌝ }
+{
+    (seed * 1664525 + 1013904223) % 4294967296
+}
+
+fn coefficient(r: u64, span: u64) -> i32
+    requires { ⌜ (r < 2 ^ 32) × (span < 2 ^ 30) ⌝ }
+{
+    let at = r % (2 * span + 1);
+    at as i32 - span as i32
+}
+
+fn noise(seed: u64, span: u64) -> [i32; ROOM]
+    requires { ⌜ (seed < 2 ^ 32) × (span < 2 ^ 30) ⌝ }
+{
+    let mut x = [0; ROOM];
+    let mut r = seed;
+    for k in 0..ROOM {
+        r = random(r);
+        x[k] = coefficient(r, span);
+    }
+    x
+}
+
+// As loud as a block can be: entry k is at the lower end where bit k of `signs` is set, and at the upper end elsewhere.
+fn loudest(bit: u64) -> i32 {
+    if bit == 1 {
+        return LEAST;
+    }
+    MOST
+}
+
+fn loud(signs: u64) -> [i32; ROOM] {
+    let mut x = [0; ROOM];
+    let mut rest = signs;
+    for k in 0..ROOM {
+        x[k] = loudest(rest % 2);
+        rest = rest / 2;
+    }
+    x
+}
+
+// A block with one entry put in place of its own.
+fn with(x: [i32; ROOM], k: usize, v: i32) -> [i32; ROOM]
+    requires { ⌜ k < 40 ⌝ }
+{
+    let mut r = x;
+    r[k] = v;
+    r
+}
+
+// Quiet, at the edge of the samples' range, and loud, block by block.
+fn span(b: usize) -> u64
+    ensures { λ r. ⌜ r < 2 ^ 30 ⌝ }
+{
+    let kind = b % 4;
+    if kind == 0 {
+        return 1048576;
+    }
+    if kind == 1 {
+        return 6000000;
+    }
+    if kind == 2 {
+        return 5000;
+    }
+    536870912
+}
+
+// A step that is refused: by the length of either buffer, by a coefficient, by both.
+fn refused(s: Stream, x: [i32; ROOM], m: usize, kind: usize) -> Stream
+    requires { ⌜ (1 ≤ m) × (m ≤ 36) ⌝ }
+{
+    if kind == 0 {
+        return offer(s, x, m - 1, m);
+    }
+    if kind == 1 {
+        return offer(s, x, m, m + 1);
+    }
+    if kind == 2 {
+        return offer(s, with(x, m - 1, ABOVE), m, m);
+    }
+    offer(s, with(x, 0, BELOW), m, m - 1)
+}
+
+// A long stream: a refused step first and after every block.
+fn long(n: usize, m: usize)
+    requires { ⌜ (n ≤ 72) × (1 ≤ m) × (m ≤ 36) ⌝ }
+{
+    let made = filter_bank::fresh(n);
+    let mut s = refused(made.stream, loud(0), m, 2);
+    for b in 0..BLOCKS {
+        let x = noise((100 * n + b) as u64, span(b));
+        s = offer(s, x, m, m);
+        s = refused(s, x, m, b % 4);
+    }
+}
+
+// Loud blocks. All of one sign and then alternating have the signs of the kernel's entries for one place: no sum of a tail entry
+// and a value goes further. It is tried both ways.
+fn loud_pair(s: Stream, m: usize, signs: u64, then: u64) -> Stream
+    requires { ⌜ m ≤ 36 ⌝ }
+{
+    let s1 = offer(s, loud(signs), m, m);
+    offer(s1, loud(then), m, m)
+}
+
+fn extremes(n: usize, m: usize)
+    requires { ⌜ m ≤ 36 ⌝ }
+{
+    let made = filter_bank::fresh(n);
+    let s1 = loud_pair(made.stream, m, 0, EVERY);
+    let s2 = loud_pair(s1, m, EVERY, ODD);
+    let s3 = loud_pair(s2, m, ODD, ODD);
+    let s4 = loud_pair(s3, m, 0, EVEN);
+    offer(s4, noise(0, 0), m, m);
+}
+
+// The coefficient v, first and last, taken or not, and with a buffer that is short by one.
+fn limit(n: usize, m: usize, v: i32)
+    requires { ⌜ (1 ≤ m) × (m ≤ 36) ⌝ }
+{
+    let x = noise(7, 1000000);
+    let first = with(x, 0, v);
+    let last = with(x, m - 1, v);
+    let made = filter_bank::fresh(n);
+    let s1 = offer(made.stream, first, m, m);
+    let s2 = offer(s1, last, m, m);
+    let s3 = offer(s2, first, m, m - 1);
+    let s4 = offer(s3, last, m + 1, m);
+    offer(s4, x, m, m);
+}
+
+fn limits(n: usize, m: usize)
+    requires { ⌜ (1 ≤ m) × (m ≤ 36) ⌝ }
+{
+    limit(n, m, MOST);
+    limit(n, m, ABOVE);
+    limit(n, m, LEAST);
+    limit(n, m, BELOW);
+    limit(n, m, 2147483647);
+    limit(n, m, -2147483648);
+}
+
+// A forged stream, all its tail entries `rest` but entry i, which is v: one step on a quiet block.
+fn forged(n: usize, m: usize, rest: i64, i: usize, v: i64)
+    requires { ⌜ (m ≤ 36) × (i < 36) ⌝ }
+{
+    let mut tail = [rest; stream::STORAGE];
+    tail[i] = v;
+    let s = Stream { n: n, tail: tail };
+    offer(s, noise(9, 1000000), m, m);
+}
+
+// A forged stream is refused with 4 before any length and any coefficient is looked at.
+fn forged_first(n: usize, m: usize, v: i64)
+    requires { ⌜ m ≤ 36 ⌝ }
+{
+    let s = Stream {
+        n: n,
+        tail: [v; stream::STORAGE],
+    };
+    let s1 = offer(s, loud(0), 0, m);
+    let s2 = offer(s1, with(loud(0), 0, ABOVE), m, m);
+    offer(s2, with(loud(0), 0, BELOW), m, 0);
+}
+
+// A whole tail of v, and a block that drives one place as far as it goes.
+fn driven(n: usize, m: usize, v: i64, signs: u64)
+    requires { ⌜ m ≤ 36 ⌝ }
+{
+    let s = Stream {
+        n: n,
+        tail: [v; stream::STORAGE],
+    };
+    offer(s, loud(signs), m, m);
+}
+
+// Tail entries at the limit and one beyond, in the first place and in the last.
+fn tails(n: usize, m: usize, most: i64, above: i64, least: i64, below: i64)
+    requires { ⌜ (1 ≤ m) × (m ≤ 36) ⌝ }
+{
+    forged(n, m, most, 0, most);
+    forged(n, m, least, 0, least);
+    forged(n, m, most, m - 1, least);
+    forged(n, m, 0, 0, above);
+    forged(n, m, 0, 0, below);
+    forged(n, m, 0, m - 1, above);
+    forged(n, m, 0, m - 1, below);
+    forged(n, m, 0, m - 1, -9223372036854775808);
+    forged(n, m, 0, m - 1, 9223372036854775807);
+    forged_first(n, m, above);
+    forged_first(n, m, below);
+    driven(n, m, most, ODD);
+    driven(n, m, least, EVEN);
+}
+
+// Rubbish beyond M: kept, and never a cause.
+fn beyond(n: usize, m: usize)
+    requires { ⌜ m < 36 ⌝ }
+{
+    forged(n, m, 0, m, -9223372036854775808);
+    forged(n, m, 0, 35, 9223372036854775807);
+}
+
+fn length(n: usize, m: usize)
+    requires { ⌜ (n ≤ 72) × (1 ≤ m) × (m ≤ 36) ⌝ }
+{
+    long(n, m);
+    extremes(n, m);
+    limits(n, m);
+}
+
+fn made(n: usize) {
+    let r = filter_bank::fresh(n);
+    report::word(b"fresh");
+    report::count(n);
+    report::count(r.code as usize);
+    report::end();
+    let s = r.stream;
+    let tail = s.tail;
+    show_stream(s.n, &tail);
+}
+
+// Streams of a length that is not tabled.
+fn untabled(n: usize) {
+    made(n);
+    forged(n, 0, 0, 0, 0);
+    forged(n, 18, 0, 3, 5);
+    forged_first(n, 24, 0);
+}
+
+fn main() {
+    made(12);
+    made(24);
+    made(36);
+    made(72);
+    untabled(0);
+    untabled(11);
+    untabled(48);
+    untabled(18446744073709551615);
+    length(12, 6);
+    length(24, 12);
+    length(36, 18);
+    length(72, 36);
+    tails(
+        12,
+        6,
+        216172782113783808,
+        216172782113783809,
+        -216172782113783808,
+        -216172782113783809,
+    );
+    tails(
+        24,
+        12,
+        432345564227567616,
+        432345564227567617,
+        -432345564227567616,
+        -432345564227567617,
+    );
+    tails(
+        36,
+        18,
+        648518346341351424,
+        648518346341351425,
+        -648518346341351424,
+        -648518346341351425,
+    );
+    tails(
+        72,
+        36,
+        1297036692682702848,
+        1297036692682702849,
+        -1297036692682702848,
+        -1297036692682702849,
+    );
+    beyond(12, 6);
+    beyond(24, 12);
+    beyond(36, 18);
+}

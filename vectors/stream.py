@@ -1,0 +1,135 @@
+"""Writes what crates/check_stream must print: python3 vectors/stream.py > crates/check_stream/stdout"""
+from bank import LENGTHS, STORAGE, K, W, fresh, step, tail_limit
+
+ROOM = 40
+MARK = 12345
+MOST, LEAST = 536870912, -536870912
+ABOVE, BELOW = MOST + 1, LEAST - 1
+EVERY = 2**ROOM - 1
+EVEN = EVERY // 3
+ODD = 2 * EVEN
+SPANS = (1048576, 6000000, 5000, MOST)
+
+
+def line(word, *fields):
+    print(",".join([word] + [str(f) for f in fields]))
+
+
+def offer(stream, x, m, l):
+    """A step on the first m entries of x and a buffer of l marks, and the stream to go on with."""
+    number, hop, stream = step(stream, x[:m], l)
+    line("out", number, *([MARK] * l if hop is None else hop))
+    line("stream", stream[0], *stream[1])
+    return stream
+
+
+def noise(seed, span):
+    x = []
+    for _ in range(ROOM):
+        seed = (seed * 1664525 + 1013904223) % 2**32
+        x.append(seed % (2 * span + 1) - span)
+    return x
+
+
+def loud(signs):
+    return [LEAST if signs >> k & 1 else MOST for k in range(ROOM)]
+
+
+def put(x, k, v):
+    return x[:k] + [v] + x[k + 1 :]
+
+
+def made(N):
+    number, stream = fresh(N)
+    line("fresh", N, number)
+    line("stream", stream[0], *stream[1])
+
+
+def refused(stream, x, M, kind):
+    if kind == 0:
+        return offer(stream, x, M - 1, M)
+    if kind == 1:
+        return offer(stream, x, M, M + 1)
+    if kind == 2:
+        return offer(stream, put(x, M - 1, ABOVE), M, M)
+    return offer(stream, put(x, 0, BELOW), M, M - 1)
+
+
+def long(N, M):
+    stream = refused(fresh(N)[1], loud(0), M, 2)
+    for b in range(12):
+        x = noise(100 * N + b, SPANS[b % 4])
+        stream = offer(stream, x, M, M)
+        stream = refused(stream, x, M, b % 4)
+
+
+def furthest(N):
+    """The signs of two blocks, one after the other, that drive the sample which goes furthest."""
+
+    def gain(n):
+        return W(N, n) * sum(abs(K(N, n, k)) for k in range(N // 2))
+
+    def signs(n):
+        return sum(1 << k for k in range(N // 2) if K(N, n, k) < 0)
+
+    n = max(range(N // 2), key=lambda n: gain(N // 2 + n) + gain(n))
+    return signs(N // 2 + n), signs(n)
+
+
+def extremes(N, M):
+    assert furthest(N) == (EVERY % 2**M, ODD % 2**M)
+    stream = fresh(N)[1]
+    for signs in (0, EVERY, EVERY, ODD, ODD, ODD, 0, EVEN):
+        stream = offer(stream, loud(signs), M, M)
+    offer(stream, [0] * ROOM, M, M)
+
+
+def limit(N, M, v):
+    x = noise(7, 1000000)
+    first, last = put(x, 0, v), put(x, M - 1, v)
+    stream = fresh(N)[1]
+    for block, m, l in ((first, M, M), (last, M, M), (first, M, M - 1), (last, M + 1, M), (x, M, M)):
+        stream = offer(stream, block, m, l)
+
+
+def forged(N, m, rest, i, v):
+    offer((N, put([rest] * STORAGE, i, v)), noise(9, 1000000), m, m)
+
+
+def forged_first(N, m, v):
+    stream = offer((N, [v] * STORAGE), loud(0), 0, m)
+    stream = offer(stream, put(loud(0), 0, ABOVE), m, m)
+    offer(stream, put(loud(0), 0, BELOW), m, 0)
+
+
+def tails(N, M):
+    most = tail_limit(N)
+    above, least, below = most + 1, -most, -most - 1
+    forged(N, M, most, 0, most)
+    forged(N, M, least, 0, least)
+    forged(N, M, most, M - 1, least)
+    for i, v in ((0, above), (0, below), (M - 1, above), (M - 1, below), (M - 1, -(2**63)), (M - 1, 2**63 - 1)):
+        forged(N, M, 0, i, v)
+    forged_first(N, M, above)
+    forged_first(N, M, below)
+    offer((N, [most] * STORAGE), loud(ODD), M, M)
+    offer((N, [least] * STORAGE), loud(EVEN), M, M)
+
+
+for N in LENGTHS:
+    made(N)
+for N in (0, 11, 48, 2**64 - 1):
+    made(N)
+    forged(N, 0, 0, 0, 0)
+    forged(N, 18, 0, 3, 5)
+    forged_first(N, 24, 0)
+for N in LENGTHS:
+    long(N, N // 2)
+    extremes(N, N // 2)
+    for v in (MOST, ABOVE, LEAST, BELOW, 2**31 - 1, -(2**31)):
+        limit(N, N // 2, v)
+for N in LENGTHS:
+    tails(N, N // 2)
+for N in LENGTHS[:3]:
+    forged(N, N // 2, 0, N // 2, -(2**63))
+    forged(N, N // 2, 0, STORAGE - 1, 2**63 - 1)
