@@ -61,9 +61,9 @@ add-result c = rw (a-is c, b-is c, toZ-ofZ (signed-fits c (negsuc 0) (lit≤ tt)
 
 -- src/fold.rt:29:1
 returns : tie.Need-returns
-returns c = 
+returns c =
     rw (a-is c, b-is c, toZ-ofZ (signed-fits c (negsuc 0) (lit≤ tt)), toZ-ofZ (sum-fits c (negsuc 0) (lit≤ tt)), less c)
-      (ap₂ (λ (a b : ℤ). a -ℤ b) (c .before .windowed .ensures .0) (c .windowed2 .ensures .0), less-abs c)
+    (ap₂ (λ (a b : ℤ). a -ℤ b) (c .before .windowed .ensures .0) (c .windowed2 .ensures .0), less-abs c)
 
 pub difference-spec : {M : Type 1} → statement M
 difference-spec =
