@@ -1,27 +1,38 @@
-"""How much of the rounding reaches a sample: the proved bound of each stage beside the largest found by search, in exact whole numbers.
-python3 vectors/rounding.py docs/rounding.svg writes the picture and prints the tables of docs/ROUNDING.md."""
+"""How much of the rounding reaches a sample. Run: python3 vectors/rounding.py docs/rounding.svg
+It writes that one file and prints the figures of docs/ROUNDING.md: each stage's bound beside the largest found by search, in exact whole numbers."""
 import random
 import sys
 from fractions import Fraction
 
-from bank import LENGTHS, C, K, W, rnd
+from bank import LENGTHS, K, W, rnd
 
-STAGES = ("y", "X", "U", "power", "gram")
+STAGES = ("y", "power", "X", "gram", "U")
+# the stages that the proof bounds only together where two blocks meet
+BLOCKS = ("X", "gram", "U")
+ROWS = (*STAGES, "blocks", "all")
 NAMES = {
     "y": "rounding of y",
-    "X": "rounding of X",
-    "U": "rounding of U",
     "power": "window's power",
+    "X": "rounding of X",
     "gram": "kernel's gram",
+    "U": "rounding of U",
+    "blocks": "X, gram and U",
     "all": "all together",
 }
 
 
 def bounds(N):
-    """The proved bounds as shares of the half unit, N × 2^29."""
-    shares = {"y": Fraction(3, 256), "X": Fraction(3, 64), "U": Fraction(3, 32 * N), "power": Fraction(1, 512), "gram": Fraction(3, 128)}
-    shares["all"] = sum(shares.values())
-    return shares
+    """The bounds as shares of the half unit, from the constants in the laws of crates/reconstruction/specs."""
+    M = N // 2
+    R, F, G, B = 3 * 2**25, 2**17, 2**27, 2**15  # JointLaws: both halves of the joint, rounding of y, power, a sample
+    off = {"X": Fraction(M, 2), "gram": Fraction(N, 8), "U": Fraction(1, 2)}  # how far one block's U(n) is off
+    E = 3 * N + 4  # BlockLaws, Near with A = 0: the same, eight times
+    assert 8 * sum(off.values()) == E
+    parts = {"y": M * 2 * R * F, "power": M * G * B} | {stage: R * size * 2**21 for stage, size in off.items()}
+    parts["blocks"] = 2**18 * R * E
+    parts["all"] = 2**18 * R * E + M * (2 * R * F + G * B)  # JointLaws, meet
+    assert parts["blocks"] == sum(parts[stage] for stage in BLOCKS) and parts["all"] == sum(parts[stage] for stage in STAGES)
+    return {row: Fraction(part) / (2**21 * (N << 29)) for row, part in parts.items()}
 
 
 def excess(a, k):
@@ -85,6 +96,10 @@ class Joint:
             return w * (T + 2**25 >> 26)
         return w * ((T << 28) - sum(s * c for s, c in zip(S, row)))
 
+    def room(self):
+        """The part of X if every coefficient lay at a half, with the worst signs, in units of 2^27."""
+        return sum(self.window[m] * sum(map(abs, self.kernel[m])) for _, m, *_ in self.blocks)
+
     def loudest_for_gram(self):
         """The loudest samples of which each pushes the gram part upward."""
         push = [0] * (3 * self.M)
@@ -135,12 +150,12 @@ def search(N, rng):
     M = N // 2
     joints = [Joint(N, n) for n in range(M)]
     half = joints[0].half()
-    found = dict.fromkeys((*STAGES, "all"), 0)
+    found = dict.fromkeys(ROWS, 0)
 
     def note(parts):
-        for stage, part in parts.items():
-            found[stage] = max(found[stage], abs(part))
-        found["all"] = max(found["all"], abs(sum(parts.values())))
+        sums = {"blocks": sum(parts[stage] for stage in BLOCKS), "all": sum(parts.values())}
+        for row, part in (parts | sums).items():
+            found[row] = max(found[row], abs(part))
 
     kinds = (
         lambda: [rng.randint(-32768, 32767) for _ in range(3 * M)],
@@ -155,10 +170,7 @@ def search(N, rng):
             note(joint.parts())
 
     # climbs where the kernel and the window leave the most room: for X alone, and for all from the loudest samples with those of y in place
-    def room(joint):
-        return sum(joint.window[m] * sum(map(abs, joint.kernel[m])) for _, m, *_ in joint.blocks)
-
-    for joint in sorted(joints, key=room)[-3:]:
+    for joint in sorted(joints, key=Joint.room)[-3:]:
         fixed = y_largest(joint)[1]
         loudest = [fixed.get(at, s) for at, s in enumerate(joint.loudest_for_gram())]
         for _ in range(3):
@@ -172,14 +184,24 @@ def percent(share):
 
 
 def table(results):
-    print("| stage | " + " | ".join(f"N = {N}: proved | found" for N in LENGTHS) + " |")
+    print("| stage | " + " | ".join(f"N = {N}: bound | found" for N in LENGTHS) + " |")
     print("|---|" + "---:|---:|" * len(LENGTHS))
-    for stage in (*STAGES, "all"):
-        row = " | ".join(f"{percent(bounds(N)[stage])} | {percent(results[N][stage])}" for N in LENGTHS)
-        print(f"| {NAMES[stage]} | {row} |")
+    for row in ROWS:
+        cells = " | ".join(f"{percent(bounds(N)[row])} | {percent(results[N][row])}" for N in LENGTHS)
+        print(f"| {NAMES[row]}{', computed' if row in BLOCKS else ''} | {cells} |")
 
 
-COLOURS = {"y": "#1f77b4", "X": "#d1495b", "U": "#edae49", "power": "#66717e", "gram": "#3a7d44", "all": "#1a1a1a"}
+def limits():
+    """What X and U cannot pass, with the true sizes of window and kernel in place of the laws' bounds on them."""
+    for N in LENGTHS:
+        joints = [Joint(N, n) for n in range(N // 2)]
+        halves = Fraction(max(joint.room() for joint in joints) << 27, N << 83)
+        ends = Fraction(max(sum(joint.window[m] for _, m, *_ in joint.blocks) for joint in joints), 2 * (N << 29))
+        print(f"N = {N}: X at most {percent(halves)}, U at most {percent(ends)}")
+
+
+COLOURS = {"y": "#1f77b4", "power": "#66717e", "X": "#d1495b", "gram": "#3a7d44", "U": "#c98a1b", "blocks": "#8a4f7d", "all": "#1a1a1a"}
+DASHED = ' stroke-dasharray="4 3"'
 
 
 def picture(results):
@@ -187,31 +209,30 @@ def picture(results):
     scale = (right - left) / 10  # a tenth of the half unit across
     out = []
 
-    def text(x, y, words, size=14, anchor="start", fill="#1a1a1a", weight="normal"):
-        out.append(f'<text x="{x:.1f}" y="{y:.1f}" font-size="{size}" text-anchor="{anchor}" fill="{fill}" font-weight="{weight}">{words}</text>')
+    def text(x, y, words, size=14, anchor="start", fill="#1a1a1a", weight="normal", more=""):
+        look = f'font-size="{size}" text-anchor="{anchor}" fill="{fill}" font-weight="{weight}"{more}'
+        out.append(f'<text x="{x:.1f}" y="{y:.1f}" {look}>{words}</text>')
 
-    def rect(x, y, w, h, fill, stroke="none"):
-        out.append(f'<rect x="{x:.1f}" y="{y:.1f}" width="{w:.1f}" height="{h:.1f}" fill="{fill}" stroke="{stroke}"/>')
+    def rect(x, y, w, h, fill, stroke="none", more=""):
+        out.append(f'<rect x="{x:.1f}" y="{y:.1f}" width="{w:.1f}" height="{h:.1f}" fill="{fill}" stroke="{stroke}"{more}/>')
 
-    def line(x1, y1, x2, y2, stroke, dash=""):
-        out.append(f'<line x1="{x1:.1f}" y1="{y1:.1f}" x2="{x2:.1f}" y2="{y2:.1f}" stroke="{stroke}"{dash}/>')
+    def line(x1, y1, x2, y2, stroke, more=""):
+        out.append(f'<line x1="{x1:.1f}" y1="{y1:.1f}" x2="{x2:.1f}" y2="{y2:.1f}" stroke="{stroke}"{more}/>')
 
     text(30, 36, "How much of the rounding reaches a sample", 22, weight="bold")
-    text(30, 60, "Shares of the half unit, N × 2²⁹, that would change a returned sample", 15, fill="#555555")
-    # the whole half unit, and the part that is enlarged
-    whole = bounds(12)["all"]
-    most = max(results[N]["all"] for N in LENGTHS)
-    y = 84
+    text(30, 60, "Shares of the half unit, N × 2²⁹, that would change a returned sample. Direct analysis, coefficients unchanged", 15, fill="#555555")
+    # the whole half unit, and the tenth of it that is enlarged
+    whole, most = bounds(12)["all"], max(results[N]["all"] for N in LENGTHS)
+    y, end = 84, left + 0.1 * (right - left)
     text(left - 14, y + 18, "the half unit", 15, "end", weight="bold")
     rect(left, y, right - left, 26, "#f1f1f1", "#777777")
     rect(left, y, float(whole) * (right - left), 26, "#c9c9c9", "#777777")
     rect(left, y, float(most) * (right - left), 26, "#1a1a1a")
-    text(left + float(whole) * (right - left) + 12, y + 18, f"proved: never beyond {percent(whole)} of it; found: up to {percent(most)}", 15)
-    edge = left + 0.1 * (right - left)
+    text(end + 12, y + 18, f"all together, N = 12. Grey: proved, at most {percent(whole)}. Black: found, {percent(most)}", 15)
     y = 148
-    for x1, x2 in ((left, left), (edge, right)):
-        line(x1, 110, x2, y, "#999999", ' stroke-dasharray="4 4"')
-    base = y + len(LENGTHS) * (6 * 22 + 22) + 6
+    for x1, x2 in ((left, left), (end, right)):
+        line(x1, 110, x2, y, "#999999", DASHED)
+    base = y + len(LENGTHS) * (len(ROWS) * 22 + 22) + 6
     for i in range(11):
         x = left + i * scale
         line(x, y, x, base, "#dddddd")
@@ -219,20 +240,26 @@ def picture(results):
     y += 12
     for N in LENGTHS:
         text(30, y + 16, f"N = {N}", 17, weight="bold")
-        for stage in (*STAGES, "all"):
-            proved, most = bounds(N)[stage], results[N][stage]
-            text(left - 14, y + 15, NAMES[stage], 14, "end", weight="bold" if stage == "all" else "normal")
-            rect(left, y + 2, float(proved) * 100 * scale, 17, "#ffffff", COLOURS[stage])
-            rect(left, y + 2, float(most) * 100 * scale, 17, COLOURS[stage])
-            after = most if stage == "all" else proved
-            text(left + float(after) * 100 * scale + 8, y + 15, f"{percent(most)} of {percent(proved)}", 13, fill="#333333")
+        for row in ROWS:
+            bound, most = bounds(N)[row], results[N][row]
+            text(left - 14, y + 15, NAMES[row], 14, "end", weight="bold" if row in ("blocks", "all") else "normal")
+            rect(left, y + 2, float(bound) * 100 * scale, 17, "#ffffff", COLOURS[row], DASHED if row in BLOCKS else "")
+            rect(left, y + 2, float(most) * 100 * scale, 17, COLOURS[row])
+            # beside the bar, or in its empty part where that is long
+            after = most if row in ("blocks", "all") else bound
+            halo = ' stroke="#ffffff" stroke-width="4" paint-order="stroke"' if after == bound else ""
+            text(left + float(after) * 100 * scale + 8, y + 15, f"{percent(most)} of {percent(bound)}", 13, fill="#333333", more=halo)
             y += 22
         y += 22
-    rect(left, base + 34, 30, 14, "#555555", "#555555")
-    text(left + 40, base + 46, "the largest found by search", 14, fill="#333333")
-    rect(left + 290, base + 34, 30, 14, "#ffffff", "#555555")
-    text(left + 330, base + 46, "the proved bound", 14, fill="#333333")
-    height = base + 66
+    y = base + 36
+    for x, fill, more, words in (
+        (30, "#555555", "", "largest found by search"),
+        (290, "#ffffff", "", "proved bound"),
+        (470, "#ffffff", DASHED, "computed from the laws of one block; only the sum is proved"),
+    ):
+        rect(x, y, 30, 14, fill, "#555555", more)
+        text(x + 40, y + 12, words, 14, fill="#333333")
+    height = base + 68
     head = (
         f'<svg xmlns="http://www.w3.org/2000/svg" viewBox="0 0 {width} {height:.0f}" width="{width}" height="{height:.0f}" '
         'font-family="DejaVu Sans, Verdana, Helvetica, Arial, sans-serif">'
@@ -245,8 +272,8 @@ if __name__ == "__main__":
         assert excess(a, 18) == 2**18 * rnd(a, 2**18) - a
     results = {N: search(N, random.Random(N)) for N in LENGTHS}
     for N in LENGTHS:
-        assert all(results[N][stage] <= bounds(N)[stage] for stage in bounds(N))
+        assert all(results[N][row] <= bounds(N)[row] for row in ROWS)
     table(results)
-    if len(sys.argv) > 1:
-        with open(sys.argv[1], "w") as file:
-            file.write(picture(results))
+    limits()
+    with open(sys.argv[1], "w", encoding="utf-8", newline="\n") as file:
+        file.write(picture(results))

@@ -63,6 +63,30 @@ def long(N, M):
         stream = refused(stream, x, M, b % 4)
 
 
+def beside(N, M):
+    kept = plain = fresh(N)[1]
+    for b in range(16):
+        x = noise(200 * N + b, SPANS[b % 4])
+        kept = offer(refused(kept, x, M, b // 4), x, M, M)
+        plain = offer(plain, x, M, M)
+        assert kept == plain
+
+
+def wrong(stream, x, M, size):
+    """Steps on buffers of which one or both have another size than M."""
+    for m, l in ((M, size), (size, M), (size, size)):
+        stream = offer(stream, x, m, l)
+    return stream
+
+
+def sizes(N, M):
+    x = noise(11, 1000000)
+    stream = offer(fresh(N)[1], x, M, M)
+    for size in (0, M - 1, M + 1):
+        stream = wrong(stream, x, M, size)
+    offer(stream, x, M, M)
+
+
 def furthest(N):
     """The signs of two blocks, one after the other, that drive the sample which goes furthest."""
 
@@ -87,9 +111,18 @@ def extremes(N, M):
 def limit(N, M, v):
     x = noise(7, 1000000)
     first, last = put(x, 0, v), put(x, M - 1, v)
+    stream = offer(fresh(N)[1], first, M, M)
+    stream = offer(stream, last, M, M)
+    stream = wrong(stream, first, M, M - 1)
+    stream = wrong(stream, last, M, M + 1)
+    offer(stream, x, M, M)
+
+
+def limit_places(N, M):
     stream = fresh(N)[1]
-    for block, m, l in ((first, M, M), (last, M, M), (first, M, M - 1), (last, M + 1, M), (x, M, M)):
-        stream = offer(stream, block, m, l)
+    for k in range(M):
+        for v in (ABOVE, BELOW):
+            stream = offer(stream, put(loud(0), k, v), M, M)
 
 
 def forged(N, m, rest, i, v):
@@ -114,6 +147,17 @@ def tails(N, M):
     forged_first(N, M, below)
     offer((N, [most] * STORAGE), loud(ODD), M, M)
     offer((N, [least] * STORAGE), loud(EVEN), M, M)
+    for i in range(M):
+        for v in (above, below):
+            forged(N, M, 0, i, v)
+
+
+def kept(N, M, v):
+    stream = offer((N, [0] * M + [v] * (STORAGE - M)), noise(9, 1000000), M, M)
+    stream = refused(stream, noise(10, 1000000), M, 2)
+    stream = offer(stream, loud(ODD), M, M)
+    stream = refused(stream, loud(EVEN), M, 1)
+    offer(stream, noise(12, 1000000), M, M)
 
 
 for N in LENGTHS:
@@ -125,11 +169,16 @@ for N in (0, 11, 48, 2**64 - 1):
     forged_first(N, 24, 0)
 for N in LENGTHS:
     long(N, N // 2)
+    beside(N, N // 2)
+    sizes(N, N // 2)
     extremes(N, N // 2)
     for v in (MOST, ABOVE, LEAST, BELOW, 2**31 - 1, -(2**31)):
         limit(N, N // 2, v)
+    limit_places(N, N // 2)
 for N in LENGTHS:
     tails(N, N // 2)
 for N in LENGTHS[:3]:
     forged(N, N // 2, 0, N // 2, -(2**63))
     forged(N, N // 2, 0, STORAGE - 1, 2**63 - 1)
+    kept(N, N // 2, -(2**63))
+    kept(N, N // 2, 2**63 - 1)

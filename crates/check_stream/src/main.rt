@@ -23,8 +23,10 @@ const ODD: u64 = 733007751850;
 
 const EVEN: u64 = 366503875925;
 
-// Blocks of a long stream.
+// Blocks of a long stream, and of a list with and without refused steps.
 const BLOCKS: usize = 12;
+
+const TWICE: usize = 16;
 
 fn show_out(code: u32, out: &[i16]) {
     report::word(b"out");
@@ -168,6 +170,61 @@ fn long(n: usize, m: usize)
     }
 }
 
+// The same blocks on two streams, on the first with a refused step before each of them: every pair of answers is the same.
+fn beside(n: usize, m: usize)
+    requires { ⌜ (n ≤ 72) × (1 ≤ m) × (m ≤ 36) ⌝ }
+{
+    let made = filter_bank::fresh(n);
+    let mut s = made.stream;
+    let mut t = made.stream;
+    for b in 0..TWICE {
+        let x = noise((200 * n + b) as u64, span(b));
+        s = refused(s, x, m, b / 4);
+        s = offer(s, x, m, m);
+        t = offer(t, x, m, m);
+    }
+}
+
+// Buffers that are empty, one of them or both.
+fn empty(s: Stream, x: [i32; ROOM], m: usize) -> Stream
+    requires { ⌜ m ≤ 36 ⌝ }
+{
+    let s1 = offer(s, x, m, 0);
+    let s2 = offer(s1, x, 0, m);
+    offer(s2, x, 0, 0)
+}
+
+// Buffers that are short by one.
+fn shorter(s: Stream, x: [i32; ROOM], m: usize) -> Stream
+    requires { ⌜ (1 ≤ m) × (m ≤ 36) ⌝ }
+{
+    let s1 = offer(s, x, m, m - 1);
+    let s2 = offer(s1, x, m - 1, m);
+    offer(s2, x, m - 1, m - 1)
+}
+
+// Buffers that are long by one.
+fn longer(s: Stream, x: [i32; ROOM], m: usize) -> Stream
+    requires { ⌜ m ≤ 36 ⌝ }
+{
+    let s1 = offer(s, x, m, m + 1);
+    let s2 = offer(s1, x, m + 1, m);
+    offer(s2, x, m + 1, m + 1)
+}
+
+// Wrong lengths between two good blocks.
+fn sizes(n: usize, m: usize)
+    requires { ⌜ (1 ≤ m) × (m ≤ 36) ⌝ }
+{
+    let x = noise(11, 1000000);
+    let made = filter_bank::fresh(n);
+    let s1 = offer(made.stream, x, m, m);
+    let s2 = empty(s1, x, m);
+    let s3 = shorter(s2, x, m);
+    let s4 = longer(s3, x, m);
+    offer(s4, x, m, m);
+}
+
 // Loud blocks. All of one sign and then alternating have the signs of the kernel's entries for one place: no sum of a tail entry
 // and a value goes further. It is tried both ways.
 fn loud_pair(s: Stream, m: usize, signs: u64, then: u64) -> Stream
@@ -188,7 +245,7 @@ fn extremes(n: usize, m: usize)
     offer(s4, noise(0, 0), m, m);
 }
 
-// The coefficient v, first and last, taken or not, and with a buffer that is short by one.
+// The coefficient v, first and last, taken or not, and with buffers that are short or long by one.
 fn limit(n: usize, m: usize, v: i32)
     requires { ⌜ (1 ≤ m) × (m ≤ 36) ⌝ }
 {
@@ -198,9 +255,21 @@ fn limit(n: usize, m: usize, v: i32)
     let made = filter_bank::fresh(n);
     let s1 = offer(made.stream, first, m, m);
     let s2 = offer(s1, last, m, m);
-    let s3 = offer(s2, first, m, m - 1);
-    let s4 = offer(s3, last, m + 1, m);
+    let s3 = shorter(s2, first, m);
+    let s4 = longer(s3, last, m);
     offer(s4, x, m, m);
+}
+
+// A coefficient beyond the range at every place.
+fn limit_places(n: usize, m: usize)
+    requires { ⌜ m ≤ 36 ⌝ }
+{
+    let made = filter_bank::fresh(n);
+    let mut s = made.stream;
+    for k in 0..m {
+        s = offer(s, with(loud(0), k, ABOVE), m, m);
+        s = offer(s, with(loud(0), k, BELOW), m, m);
+    }
 }
 
 fn limits(n: usize, m: usize)
@@ -248,6 +317,16 @@ fn driven(n: usize, m: usize, v: i64, signs: u64)
     offer(s, loud(signs), m, m);
 }
 
+// A tail entry beyond the limit at every place.
+fn tail_places(n: usize, m: usize, above: i64, below: i64)
+    requires { ⌜ m ≤ 36 ⌝ }
+{
+    for i in 0..m {
+        forged(n, m, 0, i, above);
+        forged(n, m, 0, i, below);
+    }
+}
+
 // Tail entries at the limit and one beyond, in the first place and in the last.
 fn tails(n: usize, m: usize, most: i64, above: i64, least: i64, below: i64)
     requires { ⌜ (1 ≤ m) × (m ≤ 36) ⌝ }
@@ -265,22 +344,52 @@ fn tails(n: usize, m: usize, most: i64, above: i64, least: i64, below: i64)
     forged_first(n, m, below);
     driven(n, m, most, ODD);
     driven(n, m, least, EVEN);
+    tail_places(n, m, above, below);
+}
+
+// A tail of zeros whose entries beyond M are v.
+fn rubbish(m: usize, v: i64) -> [i64; stream::STORAGE]
+    requires { ⌜ m ≤ 36 ⌝ }
+{
+    let mut tail = [0; stream::STORAGE];
+    for i in m..stream::STORAGE {
+        tail[i] = v;
+    }
+    tail
+}
+
+// Such a stream through steps that are taken and refused.
+fn kept(n: usize, m: usize, v: i64)
+    requires { ⌜ (1 ≤ m) × (m ≤ 36) ⌝ }
+{
+    let tail = rubbish(m, v);
+    let s = Stream { n: n, tail: tail };
+    let s1 = offer(s, noise(9, 1000000), m, m);
+    let s2 = refused(s1, noise(10, 1000000), m, 2);
+    let s3 = offer(s2, loud(ODD), m, m);
+    let s4 = refused(s3, loud(EVEN), m, 1);
+    offer(s4, noise(12, 1000000), m, m);
 }
 
 // Rubbish beyond M: kept, and never a cause.
 fn beyond(n: usize, m: usize)
-    requires { ⌜ m < 36 ⌝ }
+    requires { ⌜ (1 ≤ m) × (m < 36) ⌝ }
 {
     forged(n, m, 0, m, -9223372036854775808);
     forged(n, m, 0, 35, 9223372036854775807);
+    kept(n, m, -9223372036854775808);
+    kept(n, m, 9223372036854775807);
 }
 
 fn length(n: usize, m: usize)
     requires { ⌜ (n ≤ 72) × (1 ≤ m) × (m ≤ 36) ⌝ }
 {
     long(n, m);
+    beside(n, m);
+    sizes(n, m);
     extremes(n, m);
     limits(n, m);
+    limit_places(n, m);
 }
 
 fn made(n: usize) {
@@ -302,19 +411,8 @@ fn untabled(n: usize) {
     forged_first(n, 24, 0);
 }
 
-fn main() {
-    made(12);
-    made(24);
-    made(36);
-    made(72);
-    untabled(0);
-    untabled(11);
-    untabled(48);
-    untabled(18446744073709551615);
-    length(12, 6);
-    length(24, 12);
-    length(36, 18);
-    length(72, 36);
+// Tails at the limit of every length: M times 2^55.
+fn all_tails() {
     tails(
         12,
         6,
@@ -347,6 +445,22 @@ fn main() {
         -1297036692682702848,
         -1297036692682702849,
     );
+}
+
+fn main() {
+    made(12);
+    made(24);
+    made(36);
+    made(72);
+    untabled(0);
+    untabled(11);
+    untabled(48);
+    untabled(18446744073709551615);
+    length(12, 6);
+    length(24, 12);
+    length(36, 18);
+    length(72, 36);
+    all_tails();
     beyond(12, 6);
     beyond(24, 12);
     beyond(36, 18);

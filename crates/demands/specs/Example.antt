@@ -1,9 +1,10 @@
--- One list of steps at N = 12: a recording, its blocks as they are brought, and what is offered, refused steps among it. ExampleLaws applies the theorem to it.
-use mathlib.Core.List.{List, [], _∷_}
+-- One list of steps at N = 12: a recording, its blocks as they are brought, and what is offered, refused steps among it; and the same blocks for the calls
+-- over whole recordings. ExampleLaws applies the theorems to them.
+use mathlib.Core.List.{List, [], _∷_, _++_}
 use Prim.Native.Nat.{ℕ, zero, suc}
 use lib.IntN.{ℤ, pos, negℤ, _+ℤ_}
-use Rattle.filter_bank.specs.declared.Route.{Route}
-use Rattle.filter_bank.specs.declared.Route.the-variants.{Direct, Short}
+use Rattle.recording.specs.declared.Route.{Route}
+use Rattle.recording.specs.declared.Route.the-variants.{Direct, Short}
 use Rattle.demands.specs.Steps.{Offer}
 
 abbrev pub minus : ℕ → ℤ
@@ -68,3 +69,10 @@ offer coefficients buffer = record { brought = coefficients; buffer = buffer }
 
 unfoldable pub offers : List Offer
 offers = offer five room ∷ offer block-0 room ∷ offer loud room ∷ offer block-1 room ∷ offer block-2 small-room ∷ offer block-2 room ∷ offer low room ∷ []
+
+-- ---- the same blocks for the calls over whole recordings: their coefficients one after the other, and a buffer for the samples
+unfoldable pub whole : List ℤ
+whole = block-0 ++ block-1 ++ block-2
+
+unfoldable pub hops-room : List ℤ
+hops-room = room ++ room ++ room

@@ -1,11 +1,11 @@
--- The theorem `there-and-back` applied to the list of Example, so that nobody has to believe that its hypotheses can be met. They are computed
--- from the definitions, the cosine from its series.
+-- The theorems `there-and-back` and `back-block-by-block` applied to Example, so that nobody has to believe that their hypotheses can be met. They
+-- are computed from the definitions, the cosine from its series.
 use mathlib.Core.Path.{_≡_, refl, sym, _∙_}
 use mathlib.Core.Bool.{Bool, false, cond}
 use mathlib.Core.List.{List, [], _∷_}
-use Prim.Native.Nat.{ℕ, _+_, _≤_, _<_}
+use Prim.Native.Nat.{ℕ, _+_, _*_, _≤_, _<_}
 use native.Mathlib.Omega.{arith}
-use lib.Dec.{T, leb, leb→le, lit<, lit≤}
+use lib.Dec.{T, eqb, eqb→eq, leb, leb→le, lit<, lit≤}
 use lib.ListN.{length, take, drop, getD-replicate}
 use lib.Seq.{ext-getD, getD-take, getD-drop}
 use lib.IntN.{ℤ, pos, natAbs, _-ℤ_}
@@ -17,16 +17,21 @@ use Rattle.arithmetic.specs.TestLaws.{all-at, both-left, both-right}
 use Rattle.cosine.specs.Cosine.{top, bottom, factorial, denominator, term, signed, series, firstQuarter, reduced, toHalf, toTurn, continued, C}
 use Rattle.cosine.specs.Kernels.{lengths, tabled, W, rising, falling, K, L, s, eB, fB, eC, fC, turned}
 use Rattle.transform.specs.Analysis.{window, y, S, X, direct}
-use Rattle.transform.specs.ShortRoute as R
+use Rattle.short_route.specs.ShortRoute as R
 use Rattle.transform.specs.Synthesis.{U, V′}
 use Rattle.stream.specs.Synthesis as Y
-use Rattle.filter_bank.specs.Analysis.{spectrum, coefficients}
-use Rattle.filter_bank.specs.Streams.{within, tailLimit, fresh, soundTail, sound, inRange, stepCode, next, hop, step, stepOut}
-use Rattle.demands.specs.Steps.{Offer, Turn, answered, run, taken, offers-of, turns, Entry, Recording, block, Brought, InOrder, change, Returned}
+use Rattle.recording.specs.Analysis.{spectrum, coefficients, block}
+use Rattle.stream.specs.Steps.{next, hop}
+use Rattle.filter_bank.specs.Analysis.{offered, analyseCode, analyseOut}
+use Rattle.filter_bank.specs.Recordings.{counted, playedCode, playedOut}
+use Rattle.filter_bank.specs.Streams.{within, tailLimit, fresh, soundTail, sound, inRange, stepCode, step, stepOut}
+use Rattle.demands.specs.Steps.{Offer, Turn, answered, run, taken, offers-of, turns, Entry, Recording, Brought, InOrder, change, Returned}
 use Rattle.demands.specs.Steps.Entry.{first, later}
 use Rattle.demands.specs.RunLaws.{no-entry, entry-offer, entry-turn}
+use Rattle.demands.specs.Recordings.{BlockByBlock, Back}
 use Rattle.demands.specs.ThereAndBackLaws.{there-and-back}
-use Rattle.demands.specs.Example.{minus, recording, routes, changed, block-0, block-1, block-2, room, small-room, five, loud, low, offer, offers}
+use Rattle.demands.specs.BackLaws.{back-block-by-block}
+use Rattle.demands.specs.Example.{minus, recording, routes, changed, block-0, block-1, block-2, room, small-room, five, loud, low, offer, offers, whole, hops-room}
 
 -- ---- the definitions that the tests below open, under one name
 cosines : Unit {0}
@@ -157,3 +162,33 @@ pub hop-2 : TakenStep 2 (offer block-2 room) (λ out. (n : ℕ) → n < 6 → na
 unfolding recording routes change
 hop-2 = taken-step 2 (offer block-2 room) (λ out. (n : ℕ) → n < 6 → natAbs (at out n -ℤ pos 5) ≤ 1) (later (later first))
     (λ t e n p. rw (six-at 12 n p, getD-replicate 6 n (pos 5) (pos 0) p) at (returned .hop-near 1 t e n p))
+
+-- ---- the calls over whole recordings: three blocks, analysed one by one, the last by the short route
+answers : Unit {0}
+unfolding computed offered analyseCode analyseOut counted playedCode whole hops-room
+answers = tt
+
+played : playedCode 12 3 whole hops-room ≡ 0
+unfolding answers
+played = refl
+
+abbrev off : ℕ → ℕ → ℕ
+off b k = natAbs (at whole (b * 6 + k) -ℤ at (analyseOut (routes b) 12 (block 12 recording b) room) k)
+
+changes : T (all 3 (λ b. all 6 (λ k. leb (off b k) 7)))
+unfolding answers
+changes = tt
+
+analysed : T (all 3 (λ b. eqb (analyseCode (routes b) 12 (block 12 recording b) room) 0))
+unfolding answers
+analysed = tt
+
+by-blocks : BlockByBlock 12 3 7 routes recording whole
+by-blocks = record {
+  buffer = λ b. room;
+  taken = λ b p. eqb→eq (analyseCode (routes b) 12 (block 12 recording b) room) 0 (all-at 3 (λ b. eqb (analyseCode (routes b) 12 (block 12 recording b) room) 0) analysed b p);
+  near = λ b p k q. leb→le (off b k) 7 (all-at 6 (λ k. leb (off b k) 7) (all-at 3 (λ b. all 6 (λ k. leb (off b k) 7)) changes b p) k q);
+}
+
+pub back : Back 12 3 7 routes recording (playedOut 12 3 whole hops-room)
+back = back-block-by-block 12 3 7 routes recording whole hops-room recorded by-blocks played

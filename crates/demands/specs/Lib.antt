@@ -5,5 +5,11 @@ pub mod RefusalLaws
 pub mod RecordingLaws
 pub mod StreamLaws
 pub mod ThereAndBackLaws
+pub mod Recordings
+pub mod BackLaws
+pub mod Demands
+pub mod AnswerLaws
+pub mod DefinitionLaws
+pub mod DemandLaws
 pub mod Example
 pub mod ExampleLaws

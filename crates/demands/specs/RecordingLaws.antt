@@ -15,18 +15,18 @@ use Rattle.arithmetic.specs.OrderLaws.{abs-via}
 use Rattle.arithmetic.specs.RoundingLaws.{Sample, sample-abs}
 use Rattle.cosine.specs.Kernels.{tabled, rising, falling}
 use Rattle.cosine.specs.LengthLaws.{Part, part-of}
-use Rattle.cosine.specs.KernelLaws.{W-size}
 use Rattle.transform.specs.Analysis.{y, X, direct}
-use Rattle.transform.specs.ShortRoute.{shortX, short}
+use Rattle.short_route.specs.ShortRoute.{shortX, short}
 use Rattle.transform.specs.Synthesis.{V′}
 use Rattle.transform.specs.SizeLaws.{y-size}
-use Rattle.transform.specs.ShortLaws.{within-16}
+use Rattle.short_route.specs.ShortLaws.{within-16}
+use Rattle.stream.specs.StepLaws.{rising-size, falling-size}
 use Rattle.reconstruction.specs.Neighbours.{Neighbours}
 use Rattle.reconstruction.specs.DistanceLaws.{sine-neighbours, returned-each, returned-same}
-use Rattle.filter_bank.specs.declared.Route.{Route}
-use Rattle.filter_bank.specs.declared.Route.the-variants.{Direct, Short}
-use Rattle.filter_bank.specs.Analysis.{spectrum, coefficients}
-use Rattle.demands.specs.Steps.{Recording, block, Brought, change}
+use Rattle.recording.specs.declared.Route.{Route}
+use Rattle.recording.specs.declared.Route.the-variants.{Direct, Short}
+use Rattle.recording.specs.Analysis.{spectrum, coefficients, block}
+use Rattle.demands.specs.Steps.{Recording, Brought, change}
 
 -- ---- the change that is allowed where two blocks meet is no less than that of each
 pub change-first : (Q : ℕ) (r r′ : Route) → change Q r r ≤ change Q r r′
@@ -47,26 +47,17 @@ pub change-direct : (Q : ℕ) (r r′ : Route) → r ≡ Direct → r′ ≡ Dir
 unfolding change
 change-direct Q r r′ e f = rw (e, f)
 
--- ---- the two halves of the window
-pub rising-size : (N n : ℕ) → natAbs (rising N n) ≤ 2 ^ 26
-unfolding rising
-rising-size N n = W-size N n
-
-pub falling-size : (N n : ℕ) → natAbs (falling N n) ≤ 2 ^ 26
-unfolding falling
-falling-size N n = W-size N (N / 2 + n)
-
 -- the block x, windowed
 abbrev pub windowed : ℕ → List ℤ → ℕ → ℤ
 windowed N x = y N (rising N) (falling N) x
 
 -- ---- the coefficients by a route, against the direct ones
 module _ (N : ℕ) (x : List ℤ) (k : ℕ) (p : k < N / 2) where
-  by-direct : at (coefficients Direct N x) k ≡ X N (windowed N x) k
+  pub by-direct : at (coefficients Direct N x) k ≡ X N (windowed N x) k
   unfolding coefficients spectrum direct
   by-direct = getD-table (X N (windowed N x)) (pos 0) (N / 2) k p
 
-  by-short : at (coefficients Short N x) k ≡ shortX N (windowed N x) k
+  pub by-short : at (coefficients Short N x) k ≡ shortX N (windowed N x) k
   unfolding coefficients spectrum short
   by-short = getD-table (shortX N (windowed N x)) (pos 0) (N / 2) k p
 

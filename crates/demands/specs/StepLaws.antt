@@ -8,19 +8,17 @@ use native.Mathlib.Omega.{arith}
 use lib.Dec.{T, eqb, eqb·suc-zero}
 use lib.ListN.{length}
 use lib.IntN.{ℤ, pos, negℤ, natAbs}
-use lib.Signed.{leZ, leZ-yes}
+use lib.Signed.{leZ}
 use Rattle.arithmetic.specs.Lists.{at}
 use Rattle.arithmetic.specs.OrderLaws.{abs-le}
-use Rattle.arithmetic.specs.TestLaws.{both-left, both-right, both-make, all-at, all-make}
+use Rattle.arithmetic.specs.TestLaws.{both-make, all-at, all-make}
 use Rattle.cosine.specs.Kernels.{tabled}
 use Rattle.stream.specs.declared.Stream.{Stream}
-use Rattle.filter_bank.specs.Streams.{within, coefficientLimit, tailLimit, soundTail, sound, inRange, stepCode, next, hop, step, stepOut}
+use Rattle.stream.specs.Steps.{next, hop}
+use Rattle.filter_bank.specs.Streams.{within, coefficientLimit, tailLimit, soundTail, sound, inRange, stepCode, step, stepOut}
+use Rattle.filter_bank.specs.StreamLaws.{within-abs}
 
 -- ---- within a limit
-pub within-abs : (z : ℤ) (b : ℕ) → T (within z b) → natAbs z ≤ b
-unfolding within
-within-abs z b t = abs-le z b .1 (leZ-yes (both-right (leZ (negℤ (pos b)) z) (leZ z (pos b)) t), leZ-yes (both-left (leZ (negℤ (pos b)) z) (leZ z (pos b)) t))
-
 pub abs-within : (z : ℤ) (b : ℕ) → natAbs z ≤ b → T (within z b)
 unfolding within
 abs-within z b h =

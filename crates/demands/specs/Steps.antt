@@ -6,17 +6,17 @@ use mathlib.Core.Bool.{cond}
 use mathlib.Core.List.{List, [], _∷_}
 use Prim.Native.Nat.{ℕ, suc, _+_, _-_, _*_, _/_, _≤_, _<_}
 use lib.Dec.{eqb}
-use lib.ListN.{length, take, drop, replicate}
+use lib.ListN.{length, drop, replicate}
 use lib.IntN.{ℤ, pos, natAbs, _-ℤ_}
 use Rattle.arithmetic.specs.Lists.{at}
 use Rattle.arithmetic.specs.RoundingLaws.{Sample}
-use Rattle.transform.specs.ShortRoute.{units}
+use Rattle.short_route.specs.ShortRoute.{units}
 use Rattle.stream.specs.Synthesis.{storage}
 use Rattle.stream.specs.declared.Stream.{Stream}
-use Rattle.filter_bank.specs.declared.Route.{Route}
-use Rattle.filter_bank.specs.declared.Route.the-variants.{Direct, Short}
+use Rattle.recording.specs.declared.Route.{Route}
+use Rattle.recording.specs.declared.Route.the-variants.{Direct, Short}
 use Rattle.filter_bank.specs.declared.Stepped.{Stepped}
-use Rattle.filter_bank.specs.Analysis.{coefficients}
+use Rattle.recording.specs.Analysis.{coefficients, block}
 use Rattle.filter_bank.specs.Streams.{fresh, step, stepOut}
 
 -- ---- the list of steps
@@ -78,10 +78,6 @@ pub record Recording (N H : ℕ) (x : List ℤ) : Type 0 where
   pub hops : 2 ≤ H
   pub long : length x ≡ H * (N / 2)
   pub sample : (i : ℕ) → i < length x → Sample (at x i)
-
--- block b covers hops b and b + 1
-unfoldable pub block : ℕ → List ℤ → ℕ → List ℤ
-block N x b = take N (drop (b * (N / 2)) x)
 
 -- c are the M coefficients of block b of x, analysed by its own route, each changed by a whole number from -Q to Q. That they are in range isn't
 -- asked: a step that takes them says so

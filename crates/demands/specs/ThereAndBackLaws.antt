@@ -13,15 +13,17 @@ use Rattle.arithmetic.specs.Rounding.{rnd, clamp}
 use Rattle.cosine.specs.Kernels.{tabled, rising, falling}
 use Rattle.transform.specs.Synthesis.{V′}
 use Rattle.stream.specs.declared.Stream.{Stream}
-use Rattle.filter_bank.specs.declared.Route.{Route}
-use Rattle.filter_bank.specs.declared.Route.the-variants.{Direct}
-use Rattle.filter_bank.specs.Streams.{fresh, hop}
+use Rattle.recording.specs.declared.Route.{Route}
+use Rattle.recording.specs.declared.Route.the-variants.{Direct}
+use Rattle.stream.specs.Steps.{hop}
+use Rattle.filter_bank.specs.Streams.{fresh}
 use Rattle.demands.specs.Steps.{Offer, Turn, answered, run, taken, turns, final, Entry, Recording, Brought, InOrder, change, Returned}
 use Rattle.demands.specs.Steps.Entry.{first, later}
 use Rattle.demands.specs.StepLaws.{taken-buffer}
 use Rattle.demands.specs.RunLaws.{code, answered-code, refused-stream, refused-buffer, run-taken, run-refused, no-entry, entry-taken}
 use Rattle.demands.specs.RecordingLaws.{back-near, back-same}
-use Rattle.demands.specs.StreamLaws.{Fine, fresh-is, fine-fresh, fine-four, fine-answered, fine-after, taken-next, hop-long, hop-at, next-at}
+use Rattle.stream.specs.NextLaws.{Fine, hop-long, hop-at, next-at}
+use Rattle.demands.specs.StreamLaws.{fresh-is, fine-made, fine-four, fine-answered, fine-after, taken-next}
 
 taken-output : (s : Stream) (o : Offer) → code s o ≡ 0 → answered s o .output ≡ hop s (o .brought)
 unfolding answered
@@ -129,7 +131,7 @@ module _ (N : ℕ) (t : T (tabled N)) where
             (ih s′ (suc j) (state-next s o z j st now) (bring-later j (answered s o) us br′)))
 
     state-fresh : State 0 (fresh N .stream)
-    state-fresh = record { fine = fine-fresh N t; before = λ b e. absurd (omega arith) }
+    state-fresh = record { fine = fine-made N t; before = λ b e. absurd (omega arith) }
 
     all-hops : (offers : List Offer) → InOrder N H Q routes x offers → Keep 0 (taken (turns N offers))
     unfolding turns
@@ -142,9 +144,9 @@ pub there-and-back : (N : ℕ) → T (tabled N) → (H Q : ℕ) (routes : ℕ �
     (offers : List Offer) → InOrder N H Q routes x offers → Returned N Q routes x offers
 unfolding turns final
 there-and-back N t H Q routes x rec offers order =
-    let each = every-turn N t offers (fresh N .stream) (fine-fresh N t) in
+    let each = every-turn N t offers (fresh N .stream) (fine-made N t) in
     let hop = all-hops N t H Q routes x rec offers order .each in
-    let last = fine-after N t offers (fresh N .stream) (fine-fresh N t) in
+    let last = fine-after N t offers (fresh N .stream) (fine-made N t) in
     record {
       made = rw (fresh-is N t);
       no-four = λ i u e. each i u e .no-four;

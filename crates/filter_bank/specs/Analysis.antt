@@ -5,25 +5,15 @@ use Prim.Native.Nat.{ℕ, _/_}
 use lib.Dec.{eqb}
 use lib.ListN.{length}
 use lib.IntN.{ℤ}
-use Rattle.cosine.specs.Kernels.{tabled, rising, falling}
-use Rattle.transform.specs.Analysis.{y, direct}
-use Rattle.transform.specs.ShortRoute.{short}
-use Rattle.filter_bank.specs.declared.Route.{Route}
-use Rattle.filter_bank.specs.declared.Route.the-variants.{Direct, Short}
+use Rattle.cosine.specs.Kernels.{tabled}
+use Rattle.recording.specs.declared.Route.{Route}
+use Rattle.recording.specs.declared.Route.the-variants.{Direct, Short}
+use Rattle.recording.specs.Analysis.{coefficients}
 
 -- the lengths at which a route is offered
 unfoldable pub offered : Route → ℕ → Bool
 offered Direct N = tabled N
 offered Short N = tabled N
-
--- the M coefficients of a windowed block, by a route
-unfoldable pub spectrum : Route → ℕ → (ℕ → ℤ) → List ℤ
-spectrum Direct N y = direct N y
-spectrum Short N y = short N y
-
--- the M coefficients of a block x of N samples, by a route, with the sine window
-unfoldable pub coefficients : Route → ℕ → List ℤ → List ℤ
-coefficients route N x = spectrum route N (y N (rising N) (falling N) x)
 
 -- the number that `analyse` returns: 1 where the route is not offered at N, then 2 where a buffer's length differs from the stated one
 unfoldable pub analyseCode : Route → ℕ → List ℤ → List ℤ → ℕ

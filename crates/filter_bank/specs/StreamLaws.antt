@@ -3,6 +3,7 @@ use mathlib.Core.Path.{_≡_, refl}
 use mathlib.Core.Bool.{Bool, true, false}
 use mathlib.Core.List.{List}
 use Prim.Native.Nat.{ℕ, _*_, _/_, _^_, _≤_}
+use native.Mathlib.Omega.{arith}
 use lib.Dec.{T, eqb}
 use lib.ListN.{length}
 use lib.IntN.{ℤ, pos, negℤ, natAbs}
@@ -14,7 +15,8 @@ use Rattle.arithmetic.specs.TestLaws.{all-at, both-left, both-right}
 use Rattle.cosine.specs.Kernels.{tabled}
 use Rattle.stream.specs.declared.Stream.{Stream}
 use Rattle.stream.specs.StepLaws.{Bounded}
-use Rattle.filter_bank.specs.Streams.{within, coefficientLimit, tailLimit, soundTail, sound, inRange, stepCode, next, hop, step, stepOut}
+use Rattle.stream.specs.Steps.{next, hop}
+use Rattle.filter_bank.specs.Streams.{within, coefficientLimit, tailLimit, soundTail, sound, inRange, stepCode, step, stepOut}
 
 -- ---- a number within the limit, as a size
 pub within-abs : (z : ℤ) (b : ℕ) → T (within z b) → natAbs z ≤ b
@@ -24,12 +26,21 @@ within-abs z b t =
     let hi = both-right (leZ (negℤ (pos b)) z) (leZ z (pos b)) t in
     abs-le z b .1 (leZ-yes hi, leZ-yes lo)
 
-is-T : {b : Bool} → b ≡ true → T b
+-- ---- a test as a fact, and the other way
+pub is-T : {b : Bool} → b ≡ true → T b
 is-T e = rw e tt
 
-pub range-small : (x : List ℤ) → inRange (length x) x ≡ true → Small x (2 ^ 29)
+pub is-true : {b : Bool} → T b → b ≡ true
+is-true {b = true} t = refl
+is-true {b = false} t = absurd t
+
+pub is-false : {b : Bool} → ¬ T b → b ≡ false
+is-false {b = true} n = absurd (n tt)
+is-false {b = false} n = refl
+
+pub range-small : (x : List ℤ) (m : ℕ) → length x ≡ m → inRange m x ≡ true → Small x (2 ^ 29)
 unfolding inRange
-range-small x e = record { small = λ k p. within-abs (at x k) coefficientLimit (all-at (length x) (λ k. within (at x k) coefficientLimit) (is-T e) k p) }
+range-small x m l e = record { small = λ k p. within-abs (at x k) coefficientLimit (all-at m (λ k. within (at x k) coefficientLimit) (is-T e) k (omega (arith, l))) }
 
 pub tail-bounded : (M : ℕ) (tail : List ℤ) → all M (λ i. within (at tail i) (tailLimit M)) ≡ true → Bounded M tail
 unfolding tailLimit
@@ -43,10 +54,6 @@ sound-tabled s e = both-left (tabled (s .n)) (soundTail s) (is-T e)
 pub sound-bounded : (s : Stream) → sound s ≡ true → Bounded (s .n / 2) (s .tail)
 unfolding sound soundTail
 sound-bounded s e = tail-bounded (s .n / 2) (s .tail) (is-true (both-right (tabled (s .n)) (soundTail s) (is-T e)))
-  where
-    is-true : {b : Bool} → T b → b ≡ true
-    is-true {b = true} t = refl
-    is-true {b = false} t = absurd t
 
 -- ---- the number, by the causes in their order
 module _ (s : Stream) (x out : List ℤ) where
@@ -68,13 +75,13 @@ module _ (s : Stream) (x out : List ℤ) where
       step-2-out c = rw (a, eq-eqb (length x) M b, ne-eqb (length out) M c)
 
       module _ (c : length out ≡ M) where
-        pub step-3 : inRange (length x) x ≡ false → stepCode s x out ≡ 3
+        pub step-3 : inRange M x ≡ false → stepCode s x out ≡ 3
         unfolding stepCode
-        step-3 e = rw (a, eq-eqb (length x) M b, eq-eqb (length out) M c, rw b at e)
+        step-3 e = rw (a, eq-eqb (length x) M b, eq-eqb (length out) M c, e)
 
-        pub step-0 : inRange (length x) x ≡ true → stepCode s x out ≡ 0
+        pub step-0 : inRange M x ≡ true → stepCode s x out ≡ 0
         unfolding stepCode
-        step-0 e = rw (a, eq-eqb (length x) M b, eq-eqb (length out) M c, rw b at e)
+        step-0 e = rw (a, eq-eqb (length x) M b, eq-eqb (length out) M c, e)
 
   -- ---- what follows from it
   pub refused : (c : ℕ) → eqb c 0 ≡ false → stepCode s x out ≡ c → (record { code = c; stream = s } ≡ step s x out) × (out ≡ stepOut s x out)

@@ -7,9 +7,10 @@ use lib.ListN.{length}
 use lib.IntN.{ℤ, pos, negℤ}
 use lib.Signed.{leZ}
 use Rattle.arithmetic.specs.Lists.{at, all}
-use Rattle.cosine.specs.Kernels.{tabled, rising, falling}
+use Rattle.cosine.specs.Kernels.{tabled}
 use Rattle.stream.specs.declared.Stream.{Stream}
 use Rattle.stream.specs.Synthesis as S
+use Rattle.stream.specs.Steps.{next, hop}
 use Rattle.filter_bank.specs.declared.Made.{Made}
 use Rattle.filter_bank.specs.declared.Stepped.{Stepped}
 
@@ -48,13 +49,6 @@ stepCode s x out =
     2)
     2)
     4
-
--- the stream after a step that was taken, and the hop it returns, with the sine window
-unfoldable pub next : Stream → List ℤ → Stream
-next s x = record { n = s .n; tail = S.newTail (s .n) (rising (s .n)) (falling (s .n)) (s .tail) x }
-
-unfoldable pub hop : Stream → List ℤ → List ℤ
-hop s x = S.hop (s .n) (rising (s .n)) (falling (s .n)) (s .tail) x
 
 -- what `step` answers, and what `out` then holds: refused, the stream handed in and what `out` held
 unfoldable pub step : Stream → List ℤ → List ℤ → Stepped

@@ -1,16 +1,17 @@
 // The public calls: every check and refusal of document 01, in its order, and nothing else. The work is in the crates below.
 // No call has a requires: any numbers and any buffer lengths may be handed in.
 mod checks;
+mod recordings;
 
 ghost use mathlib.Core.Path.{_≡_};
+ghost use Rattle.filter_bank.specs.Analysis.{analyseCode, analyseOut};
 ghost use Rattle.filter_bank.specs.Streams.{fresh, step, stepOut};
+use recording::Route;
+pub use recordings::analyse_recording;
+pub use recordings::inner;
+pub use recordings::inner_view;
+pub use recordings::synthesise_recording;
 use stream::Stream;
-
-// How a block is analysed.
-pub enum Route {
-    Direct,
-    Short,
-}
 
 // What `fresh` answers: a number, and the stream that was made where it is 0.
 pub struct Made {
@@ -22,6 +23,25 @@ pub struct Made {
 pub struct Stepped {
     pub code: u32,
     pub stream: Stream,
+}
+
+// The coefficients of one block of n samples, by the route named. 1: the route is not offered at n. 2: a buffer's length is not the
+// stated one. Refused, `out` is left alone.
+pub fn analyse(route: Route, n: usize, x: &[i16], out: &mut [i32]) -> u32
+    ensures { λ r. ⌜ (r ≡ analyseCode route n (now (x .entry)) (now (out .entry))) × (now (out .exit) ≡ analyseOut route n (now (x .entry)) (now (out .entry))) ⌝ }
+{
+    if !checks::is_offered(route, n) {
+        return 1;
+    }
+    if x.len() != n {
+        return 2;
+    }
+    let m = n / 2;
+    if out.len() != m {
+        return 2;
+    }
+    recording::analyse_block(route, n, x, out);
+    0
 }
 
 // A fresh stream for blocks of n samples. 1: n is not tabled, and N and every tail entry are 0.
@@ -57,7 +77,7 @@ pub fn step(s: Stream, x: &[i32], out: &mut [i16]) -> Stepped
     if out.len() != n / 2 {
         return Stepped { code: 2, stream: s };
     }
-    if !checks::in_range(x) {
+    if !checks::in_range(x, n / 2) {
         return Stepped { code: 3, stream: s };
     }
     let next = stream::advance(s, x, out);

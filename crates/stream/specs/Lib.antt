@@ -1,2 +1,4 @@
 pub mod Synthesis
+pub mod Steps
 pub mod StepLaws
+pub mod NextLaws

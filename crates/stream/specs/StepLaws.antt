@@ -20,6 +20,15 @@ use Rattle.stream.specs.Synthesis.{sample, hop, newTail}
 pub record Bounded (M : ℕ) (xs : List ℤ) : Type 0 where
   pub within : (i : ℕ) → i < M → natAbs (at xs i) ≤ M * 2 ^ 55
 
+-- ---- the two halves of the window
+pub rising-size : (N n : ℕ) → natAbs (rising N n) ≤ 2 ^ 26
+unfolding rising
+rising-size N n = W-size N n
+
+pub falling-size : (N n : ℕ) → natAbs (falling N n) ≤ 2 ^ 26
+unfolding falling
+falling-size N n = W-size N (N / 2 + n)
+
 -- ---- V as the code has it: N numbers, and whatever room is left behind them
 module _ (N : ℕ) (t : T (tabled N)) (X vl rest : List ℤ) (small : (k : ℕ) → k < N / 2 → natAbs (at X k) ≤ 2 ^ 29)
     (is : vl ≡ table N (V′ N (rising N) (falling N) X)) where
@@ -38,14 +47,8 @@ module _ (N : ℕ) (t : T (tabled N)) (X vl rest : List ℤ) (small : (k : ℕ) 
   pub values-bounded : Bounded (N / 2) (vl ++ rest)
   values-bounded = record {
     within = λ i p. rw (entry i (omega arith))
-        (V-size N (rising N) (falling N) (part-of N t) (λ n q. rise n) (λ n q. fall n) X small i (omega arith));
+        (V-size N (rising N) (falling N) (part-of N t) (λ n q. rising-size N n) (λ n q. falling-size N n) X small i (omega arith));
   }
-    where
-      rise : (n : ℕ) → natAbs (rising N n) ≤ 2 ^ 26
-      rise n = unfold rising in W-size N n
-
-      fall : (n : ℕ) → natAbs (falling N n) ≤ 2 ^ 26
-      fall n = unfold falling in W-size N (N / 2 + n)
 
   pub hop-step : (tail out : List ℤ) → out ≡ table (N / 2) (λ i. clamp (rnd (at tail i +ℤ at (vl ++ rest) i) (N * 2 ^ 30))) → out ≡ hop N (rising N) (falling N) tail X
   unfolding hop sample

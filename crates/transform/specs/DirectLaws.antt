@@ -44,18 +44,19 @@ direct-ext N u v e = table-ext (N / 2) (X N u) (X N v) (λ k p. ap (λ (z : ℤ)
 pub y-lent : (N : ℕ) → T (tabled N) → (x : List ℤ) (n : ℕ) → n < N → y N (at (riseList N)) (at (fallList N)) x n ≡ y N (rising N) (falling N) x n
 y-lent N t x = y-ext N (part-of N t) (at (riseList N)) (at (fallList N)) (rising N) (falling N) x (rise-at N) (fall-at N)
 
--- the coefficients that the code computes from the folded block
+-- S from the folded block and the rows that the code has
+pub S-rows : (N : ℕ) → Part N → (u : ℕ → ℤ) (k : ℕ) → k < N / 2 → sum (N / 2) (λ j. at (table (N / 2) (folded N u)) j *ℤ at (rowList N) (k * (N / 2) + j)) ≡ S N u k
+S-rows N len u k p =
+    sum-ext (N / 2) (λ j. at (table (N / 2) (folded N u)) j *ℤ at (rowList N) (k * (N / 2) + j)) (λ j. folded N u j *ℤ F N j k)
+    (λ j q. rw (getD-table (folded N u) (pos 0) (N / 2) j q, row-at N k j p q, F-symmetric N k j))
+    ∙ sym (S-folded N len u k)
+
 pub direct-folded : (N : ℕ) → T (tabled N) → (u : ℕ → ℤ) →
     table (N / 2) (λ k. rnd (sum (N / 2) (λ j. at (table (N / 2) (folded N u)) j *ℤ at (rowList N) (k * (N / 2) + j))) (2 ^ 28)) ≡ direct N u
 unfolding direct X
 direct-folded N t u =
     table-ext (N / 2) (λ k. rnd (sum (N / 2) (λ j. at (table (N / 2) (folded N u)) j *ℤ at (rowList N) (k * (N / 2) + j))) (2 ^ 28)) (X N u)
-    (λ k p. ap (λ (z : ℤ). rnd z (2 ^ 28)) (each k p ∙ sym (S-folded N (part-of N t) u k)))
-  where
-    each : (k : ℕ) → k < N / 2 → sum (N / 2) (λ j. at (table (N / 2) (folded N u)) j *ℤ at (rowList N) (k * (N / 2) + j)) ≡ sum (N / 2) (λ j. folded N u j *ℤ F N j k)
-    each k p =
-        sum-ext (N / 2) (λ j. at (table (N / 2) (folded N u)) j *ℤ at (rowList N) (k * (N / 2) + j)) (λ j. folded N u j *ℤ F N j k)
-        (λ j q. rw (getD-table (folded N u) (pos 0) (N / 2) j q, row-at N k j p q, F-symmetric N k j))
+    (λ k p. ap (λ (z : ℤ). rnd z (2 ^ 28)) (S-rows N (part-of N t) u k p))
 
 -- ---- what the code has, step by step: the lists that are lent, the folded block, the coefficients
 module _ (N : ℕ) (t : T (tabled N)) (x : List ℤ) where

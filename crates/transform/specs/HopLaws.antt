@@ -23,11 +23,11 @@ windowed-size half i x n p q = rnd-le (at half i *ℤ at x n) (lit< tt) (abs-mul
 
 -- M samples to a hop: the block is 2 M long, and M is even
 module _ (M : ℕ) (left right x : List ℤ) where
-  y-first : (n : ℕ) → n < M → y (2 * M) (at left) (at right) x n ≡ windowed left n x n
+  pub y-first : (n : ℕ) → n < M → y (2 * M) (at left) (at right) x n ≡ windowed left n x n
   unfolding y windowed
   y-first n p = rw (window-left (2 * M) (at left) (at right) n (omega arith))
 
-  y-second : (n i : ℕ) → n ≡ M + i → y (2 * M) (at left) (at right) x n ≡ windowed right i x n
+  pub y-second : (n i : ℕ) → n ≡ M + i → y (2 * M) (at left) (at right) x n ≡ windowed right i x n
   unfolding y windowed
   y-second n i e =
       let f : n - 2 * M / 2 ≡ i = omega arith in

@@ -1,13 +1,8 @@
 pub mod Analysis
 pub mod Synthesis
-pub mod ShortRoute
 pub mod FoldLaws
 pub mod SizeLaws
 pub mod HopLaws
-pub mod ShortSizeLaws
-pub mod TripleLaws
-pub mod ShortLaws
-pub mod ShortFoldLaws
 pub mod RowLaws
 pub mod DirectLaws
 pub mod InverseLaws

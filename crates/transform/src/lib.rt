@@ -1,9 +1,9 @@
 // One block of a tabled length, valid by its requires: window, fold, direct analysis, inverse. Definitions are in specs/.
-// No function here is a public call: `filter_bank` and `stream` call them after every check.
-mod fold;
-mod sums;
-mod tables;
-mod unfold;
+// No function here is a public call: `filter_bank`, `stream` and `short_route` call them after every check.
+pub mod fold;
+pub mod sums;
+pub mod tables;
+pub mod unfold;
 
 ghost use mathlib.Core.Path.{_≡_};
 ghost use Prim.Native.Nat.{_/_, _^_};

@@ -7,7 +7,7 @@ ghost use Rattle.arithmetic.specs.Rounding.{rnd};
 ghost use Rattle.arithmetic.specs.Sums.{sum};
 ghost use Rattle.arithmetic.specs.Lists.{at, table, Small};
 
-fn product(a: i32, b: i32) -> i64
+pub fn product(a: i32, b: i32) -> i64
     ensures { λ r. ⌜ r ≡ a *ℤ b ⌝ }
 {
     a as i64 * b as i64

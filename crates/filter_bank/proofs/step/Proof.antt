@@ -2,9 +2,11 @@
 use mathlib.Core.Path.{_≡_, refl, sym, ap, _∙_}
 use mathlib.Core.Bool.{true}
 use borrow.Author.Tests.{not-true, not-false}
-use lib.ListN.{length}
+use Prim.Native.Nat.{_/_}
+use native.Mathlib.Omega.{arith}
 use Rattle.stream.specs.declared.Stream.{Stream}
-use Rattle.filter_bank.specs.Streams.{sound, soundTail, inRange, next, hop}
+use Rattle.stream.specs.Steps.{next, hop}
+use Rattle.filter_bank.specs.Streams.{sound, soundTail, inRange}
 use Rattle.filter_bank.specs.StreamLaws.{range-small, sound-tabled, sound-bounded, step-4, step-2-in, step-2-out, step-3, step-0, refused, taken}
 use borrow.Author.Needs.{needs}
 use Rattle.filter_bank.proofs.step.Statement.{statement}
@@ -38,7 +40,7 @@ returns-3 c =
     refused (a .s) (a .x .now) (a .out .now) 2 refl (step-2-out (a .s) (a .x .now) (a .out .now) (good (c .before .before)) (c .before .if2 .left) (c .if3 .taken))
 
 in-range-requires : tie.Need-in-range-requires
-in-range-requires c κs = search needs
+in-range-requires c κs = omega (arith, c .before .if2 .left)
 
 returns-4 : tie.Need-returns-4
 returns-4 c =
@@ -48,7 +50,7 @@ returns-4 c =
     (step-3 (a .s) (a .x .now) (a .out .now) (good (e .before .before)) (e .before .if2 .left) (e .if3 .left)
     (sym (c .before .in-range .ensures) ∙ not-true (c .before .in-range .result) (c .if4 .taken)))
 
-ranged : (c : tie.Else4) → let x = c .before .before .before .before .before .before .before .before .args .x .now in inRange (length x) x ≡ true
+ranged : (c : tie.Else4) → let a = c .before .before .before .before .before .before .before .before .args in inRange (a .s .n / 2) (a .x .now) ≡ true
 ranged c = sym (c .before .in-range .ensures) ∙ not-false (c .before .in-range .result) (c .if4 .left)
 
 advance-requires : tie.Need-advance-requires
@@ -56,7 +58,7 @@ advance-requires c κs =
     let a = c .before .before .before .before .before .before .before .before .before .args in
     let e = c .before .before .before in
     let g = good (e .before .before) in
-    (sound-tabled (a .s) g, e .before .if2 .left, range-small (a .x .now) (ranged (c .before)), e .if3 .left, sound-bounded (a .s) g)
+    (sound-tabled (a .s) g, e .before .if2 .left, range-small (a .x .now) (a .s .n / 2) (e .before .if2 .left) (ranged (c .before)), e .if3 .left, sound-bounded (a .s) g)
 
 same-length : tie.Need-same-length
 same-length c = search needs

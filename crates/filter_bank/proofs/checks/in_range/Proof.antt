@@ -20,10 +20,10 @@ abbrev test : List ℤ → ℕ → Bool
 test x k = within (at x k) coefficientLimit
 
 abbrev Inv-loop : tie.InvT-loop
-Inv-loop x k₀ k-end k = (k ≤ length x) × (all k (test x) ≡ true)
+Inv-loop x count k₀ k = (k ≤ count) × (all k (test x) ≡ true)
 
 abbrev μ-loop : tie.MeasureT-loop
-μ-loop x k₀ k-end k = length x - k
+μ-loop x count k₀ k = count - k
 
 loop-holds : tie.Need-loop-holds Inv-loop μ-loop
 loop-holds c = (omega arith, all-none (test (c .args .x .now)))
@@ -55,7 +55,7 @@ unfolding inRange
 returns c =
     let l = c .before .before .before .before in
     let x = l .before .args .x .now in
-    sym (all-stop (length x) (test x) (l .loop .k) (omega arith) (said (c .before) ∙ not-true (c .before .is-within .result) (c .if1 .taken)))
+    sym (all-stop (l .before .args .count) (test x) (l .loop .k) (omega arith) (said (c .before) ∙ not-true (c .before .is-within .result) (c .if1 .taken)))
 
 add-k : tie.Need-add-k Inv-loop μ-loop
 add-k c = omega arith
@@ -72,7 +72,7 @@ returns-2 : tie.Need-returns-2 Inv-loop μ-loop
 unfolding inRange
 returns-2 c =
     let x = c .before .before .args .x .now in
-    let e : c .before .loop .k ≡ length x = omega arith in
+    let e : c .before .loop .k ≡ c .before .before .args .count = omega arith in
     sym (ap (λ (j : ℕ). all j (test x)) (sym e) ∙ c .before .loop .inv .1)
 
 pub in-range-spec : {M : Type 1} → statement M

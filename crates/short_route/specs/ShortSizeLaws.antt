@@ -11,7 +11,7 @@ use Rattle.cosine.specs.Kernels.{L, s, eB, fB, eC, fC, turned}
 use Rattle.cosine.specs.CosineLaws.{C-size}
 use Rattle.cosine.specs.KernelLaws.{L-size}
 use Rattle.cosine.specs.SplitLaws.{turned-abs}
-use Rattle.transform.specs.ShortRoute.{a, b, c, e, f, rB, rC, A, B, G, D}
+use Rattle.short_route.specs.ShortRoute.{a, b, c, e, f, rB, rC, A, B, G, D}
 
 -- the cosines beside e and f
 module _ (N n : ℕ) where

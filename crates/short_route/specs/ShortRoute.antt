@@ -1,4 +1,5 @@
 -- The short route: definitions. Document 01, 'Short route', in its names. N is the length of the part that is split, y its inputs: the windowed block.
+use mathlib.Core.Path.{_≡_}
 use mathlib.Core.Bool.{cond}
 use mathlib.Core.List.{List}
 use Prim.Native.Nat.{ℕ, _-_, _*_, _/_, _%_, _^_}
@@ -43,6 +44,12 @@ G N y k = sum (N / 3) (λ n. L N n k *ℤ turned N n (rC N y n))
 
 unfoldable pub D : ℕ → (ℕ → ℤ) → ℕ → ℤ
 D N y k = G N y (N / 6 - 1 - k)
+
+-- what the split gives of y: the lists of A(k), of B(k) + D(k) and of B(k) - D(k)
+pub record Unrounded (N : ℕ) (y : ℕ → ℤ) (middle plus minus : List ℤ) : Type 0 where
+  pub middle-is : middle ≡ table (N / 6) (A N y)
+  pub plus-is : plus ≡ table (N / 6) (λ k. B N y k +ℤ D N y k)
+  pub minus-is : minus ≡ table (N / 6) (λ k. B N y k -ℤ D N y k)
 
 -- the last step: X(3k+1) = rnd(A(k)/2^28), X(3k) = rnd((B(k)+D(k))/2^29), X(3k+2) = rnd((B(k)-D(k))/2^29)
 unfoldable pub shortX : ℕ → (ℕ → ℤ) → ℕ → ℤ

@@ -18,11 +18,11 @@ use Rattle.cosine.specs.Kernels.{tabled, K, L, eB, fB, eC, fC, turned}
 use Rattle.cosine.specs.LengthLaws.{length-of}
 use Rattle.cosine.specs.KernelLaws.{L-size}
 use Rattle.cosine.specs.SplitLaws.{K-third-a, K-third-b, K-third-c, Split-at, split-plus, split-minus, L′, L′-size, turned-mul}
 use Rattle.transform.specs.Analysis.{S, X}
-use Rattle.transform.specs.ShortRoute.{a, b, c, e, f, rB, rC, A, B, G, D, shortX, units}
+use Rattle.short_route.specs.ShortRoute.{a, b, c, e, f, rB, rC, A, B, G, D, shortX, units}
 use Rattle.transform.specs.SizeLaws.{X-size}
-use Rattle.transform.specs.ShortSizeLaws.{a-size, b-size, c-size}
-use Rattle.transform.specs.TripleLaws.{made, off≤}
+use Rattle.short_route.specs.ShortSizeLaws.{a-size, b-size, c-size}
+use Rattle.short_route.specs.TripleLaws.{made, off≤}
 
 -- a sum in three parts, each backwards
 sum-three : (t : ℕ) (f : ℕ → ℤ) → sum (t + t + t) f ≡ sum t (λ n. f (t - suc n) +ℤ f (t + (t - suc n)) +ℤ f (t + t + (t - suc n)))

@@ -1,0 +1,56 @@
+-- `main` is safe and ends: the four lengths are tabled.
+use borrow.Author.Needs.{needs}
+use lib.Dec.{lit≤}
+use Rattle.arithmetic.specs.Lists.{every}
+use Rattle.cosine.specs.Kernels.{tabled, lengths}
+use Rattle.check_blocks.proofs.main.Statement.{statement}
+use Rattle.check_blocks.proofs.main.Tie as tie
+
+offered-requires : tie.Need-offered-requires
+unfolding tabled every lengths
+offered-requires c κs = (tt, lit≤ tt, lit≤ tt, lit≤ tt, lit≤ tt)
+
+offered-requires-2 : tie.Need-offered-requires-2
+unfolding tabled every lengths
+offered-requires-2 c κs = (tt, lit≤ tt, lit≤ tt, lit≤ tt, lit≤ tt)
+
+offered-requires-3 : tie.Need-offered-requires-3
+unfolding tabled every lengths
+offered-requires-3 c κs = (tt, lit≤ tt, lit≤ tt, lit≤ tt, lit≤ tt)
+
+offered-requires-4 : tie.Need-offered-requires-4
+unfolding tabled every lengths
+offered-requires-4 c κs = (tt, lit≤ tt, lit≤ tt, lit≤ tt, lit≤ tt)
+
+untabled-requires : tie.Need-untabled-requires
+untabled-requires c κs = search needs
+
+untabled-requires-2 : tie.Need-untabled-requires-2
+untabled-requires-2 c κs = search needs
+
+untabled-requires-3 : tie.Need-untabled-requires-3
+untabled-requires-3 c κs = search needs
+
+untabled-requires-4 : tie.Need-untabled-requires-4
+untabled-requires-4 c κs = search needs
+
+untabled-requires-5 : tie.Need-untabled-requires-5
+untabled-requires-5 c κs = search needs
+
+returns : tie.Need-returns
+returns c = search needs
+
+pub main-spec : {M : Type 1} → statement M
+main-spec =
+    tie.close
+    (tie.spec
+    offered-requires
+    offered-requires-2
+    offered-requires-3
+    offered-requires-4
+    untabled-requires
+    untabled-requires-2
+    untabled-requires-3
+    untabled-requires-4
+    untabled-requires-5
+    returns)

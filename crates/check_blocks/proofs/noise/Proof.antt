@@ -1,0 +1,56 @@
+-- `noise` is safe and ends: the loop counts to the length of its array.
+use Prim.Native.Nat.{_-_, _^_, _≤_, _<_}
+use borrow.Author.Needs.{needs}
+use lib.ListN.{length}
+use mathlib.Core.Path.{_≡_}
+use Rattle.check_blocks.proofs.noise.Statement.{statement}
+use Rattle.check_blocks.proofs.noise.Tie as tie
+
+abbrev Inv-loop : tie.InvT-loop
+Inv-loop seed span x₀ r₀ i₀ x r i = (i ≤ 80) × (length x ≡ 80) × (r < 2 ^ 32)
+
+abbrev μ-loop : tie.MeasureT-loop
+μ-loop seed span x₀ r₀ i₀ x r i = 80 - i
+
+loop-holds : tie.Need-loop-holds Inv-loop μ-loop
+loop-holds c = search needs
+
+random-requires : tie.Need-random-requires Inv-loop μ-loop
+random-requires c κs = search needs
+
+sample-requires : tie.Need-sample-requires Inv-loop μ-loop
+sample-requires c κs = search needs
+
+mul-x : tie.Need-mul-x Inv-loop μ-loop
+mul-x c = search needs
+
+array-set-from-x : tie.Need-array-set-from-x Inv-loop μ-loop
+array-set-from-x c = search needs
+
+add-i : tie.Need-add-i Inv-loop μ-loop
+add-i c = search needs
+
+loop-less : tie.Need-loop-less Inv-loop μ-loop
+loop-less c = search needs
+
+loop-again : tie.Need-loop-again Inv-loop μ-loop
+loop-again c = search needs
+
+returns : tie.Need-returns Inv-loop μ-loop
+returns c = search needs
+
+pub noise-spec : {M : Type 1} → statement M
+noise-spec =
+    tie.close
+    (tie.spec
+    Inv-loop
+    μ-loop
+    loop-holds
+    random-requires
+    sample-requires
+    mul-x
+    array-set-from-x
+    add-i
+    loop-less
+    loop-again
+    returns)

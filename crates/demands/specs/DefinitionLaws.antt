@@ -1,0 +1,228 @@
+-- Laws of what the public calls compute: `demand-2`, that every coefficient and every sample is document 01's.
+use mathlib.Core.Path.{_≡_, refl, sym, ap, ap₂, _∙_}
+use mathlib.Core.Bool.{Bool, true, false, cond}
+use mathlib.Core.List.{List, [], _∷_, _++_, append-assoc, append-nil}
+use Prim.Native.Nat.{ℕ, zero, suc, _+_, _-_, _*_, _/_, _^_, _≤_, _<_}
+use native.Mathlib.Nat.{add-mul, one-mul}
+use native.Mathlib.Omega.{arith}
+use native.Mathlib.Decide.{decLt}
+use lib.Dec.{T, eqb, eqb→eq}
+use lib.ListN.{length, take, drop}
+use lib.IntN.{ℤ, pos, natAbs, _+ℤ_, _-ℤ_, _*ℤ_}
+use Rattle.arithmetic.specs.Rounding.{rnd, clamp}
+use Rattle.arithmetic.specs.RoundingLaws.{Sample, sample-abs}
+use Rattle.arithmetic.specs.Sums.{sum}
+use Rattle.arithmetic.specs.Lists.{at}
+use Rattle.arithmetic.specs.ListLaws.{getD-table, part-length}
+use Rattle.arithmetic.specs.TestLaws.{cond-lt, cond-ge}
+use Rattle.cosine.specs.Kernels.{tabled, W, rising, falling, K}
+use Rattle.cosine.specs.LengthLaws.{length-of, part-of}
+use Rattle.transform.specs.Analysis as A
+use Rattle.transform.specs.Synthesis as Y
+use Rattle.transform.specs.SizeLaws.{y-size}
+use Rattle.transform.specs.DirectLaws.{S-ext}
+use Rattle.short_route.specs.ShortRoute.{shortX, short, units}
+use Rattle.short_route.specs.ShortLaws.{middle-exact, within-16}
+use Rattle.short_route.specs.ShortStepLaws.{short-ext}
+use Rattle.stream.specs.declared.Stream.{Stream}
+use Rattle.stream.specs.Steps.{next, hop}
+use Rattle.stream.specs.StepLaws.{rising-size, falling-size}
+use Rattle.stream.specs.NextLaws.{hop-long, hop-at, next-n, next-at, next-kept}
+use Rattle.recording.specs.declared.Route.{Route}
+use Rattle.recording.specs.declared.Route.the-variants.{Direct, Short}
+use Rattle.recording.specs.Analysis.{coefficients, block}
+use Rattle.recording.specs.Recordings.{joined, part, streamAfter, analysis, synthesis}
+use Rattle.recording.specs.JoinLaws.{within, joined-length, joined-part}
+use Rattle.recording.specs.RecordingLaws.{coefficients-length, hop-length, part-length-is, part-range, stream-fine}
+use Rattle.filter_bank.specs.declared.Made.{Made}
+use Rattle.filter_bank.specs.Analysis.{offered, analyseCode, analyseOut}
+use Rattle.filter_bank.specs.AnalysisLaws.{offered-tabled, analyse-0, analyse-taken}
+use Rattle.filter_bank.specs.StreamLaws.{is-true}
+use Rattle.filter_bank.specs.Streams.{tailLimit, fresh, stepCode, step, stepOut}
+use Rattle.filter_bank.specs.Recordings.{recordedCode, recordedOut, playedCode, playedOut}
+use Rattle.filter_bank.specs.RecordingLaws.{recorded-facts, recorded-taken, Played, played-facts, played-taken}
+use Rattle.demands.specs.StepLaws.{taken-stream, taken-buffer}
+use Rattle.demands.specs.RecordingLaws.{windowed, by-direct, by-short}
+use Rattle.demands.specs.Steps.{Offer, Turn, answered, run, turns, Entry}
+use Rattle.demands.specs.Steps.Entry.{first, later}
+use Rattle.demands.specs.RunLaws.{code, answered-code, no-entry}
+use Rattle.demands.specs.StreamLaws.{fresh-is}
+use Rattle.demands.specs.AnswerLaws.{demand-1}
+use Rattle.demands.specs.Recordings.{offering, outputs}
+use Rattle.demands.specs.Demands.{InRange, SoundTail, y, X, V′, Analysed, Stepped-on, Recorded-on, Played-on, Demand-2}
+
+-- ---- the window of the sine joints is W
+window-is : (N n : ℕ) → A.window N (rising N) (falling N) n ≡ W N n
+unfolding A.window rising falling
+window-is N n = go (decLt n (N / 2))
+  where
+    go : Dec (n < N / 2) → A.window N (rising N) (falling N) n ≡ W N n
+    go (yes p) = cond-lt n (N / 2) (W N n) (W N (N / 2 + (n - N / 2))) p
+    go (no p) =
+        let e : N / 2 + (n - N / 2) ≡ n = omega arith in
+        cond-ge n (N / 2) (W N n) (W N (N / 2 + (n - N / 2))) (omega arith) ∙ ap (W N) e
+
+y-is : (N : ℕ) (x : List ℤ) (n : ℕ) → windowed N x n ≡ y N x n
+unfolding A.y
+y-is N x n = rw (window-is N n)
+
+V-is : (N : ℕ) (c : List ℤ) (n : ℕ) → Y.V′ N (rising N) (falling N) c n ≡ V′ N c n
+unfolding Y.V′ Y.U
+V-is N c n = rw (window-is N n)
+
+X-is : (N : ℕ) (x : List ℤ) (k : ℕ) → A.X N (windowed N x) k ≡ X N x k
+unfolding A.X A.S
+X-is N x k = ap (λ (z : ℤ). rnd z (2 ^ 28)) (S-ext N (windowed N x) (y N x) (λ n p. y-is N x n) k)
+
+-- ---- one block
+analysed-checks : (a b c : Bool) → _≡_ {A = ℕ} (cond a (cond b (cond c 0 2) 2) 1) 0 → T a
+analysed-checks true b c h = tt
+analysed-checks false b c h = absurd (omega arith)
+
+module _ (route : Route) (N : ℕ) (x out : List ℤ) (e : analyseCode route N x out ≡ 0) where
+  analysed-tabled : T (tabled N)
+  unfolding analyseCode
+  analysed-tabled = offered-tabled route N (is-true (analysed-checks (offered route N) (eqb (length x) N) (eqb (length out) (N / 2)) e))
+
+  analysed-is : analyseOut route N x out ≡ coefficients route N x
+  analysed-is = sym (analyse-taken route N x out e .1)
+
+module _ (N : ℕ) (x out : List ℤ) (k : ℕ) (p : k < N / 2) where
+  direct-is : analyseCode Direct N x out ≡ 0 → at (analyseOut Direct N x out) k ≡ X N x k
+  direct-is e = rw (analysed-is Direct N x out e) (by-direct N x k p ∙ X-is N x k)
+
+  module _ (e : analyseCode Short N x out ≡ 0) where
+    tab : T (tabled N)
+    tab = analysed-tabled Short N x out e
+
+    short-at : at (analyseOut Short N x out) k ≡ shortX N (windowed N x) k
+    short-at = rw (analysed-is Short N x out e) (by-short N x k p)
+
+    short-is : at (analyseOut Short N x out) k ≡ shortX N (y N x) k
+    unfolding short
+    short-is =
+        short-at
+        ∙ sym (getD-table (shortX N (windowed N x)) (pos 0) (N / 2) k p)
+        ∙ ap (λ (l : List ℤ). at l k) (short-ext N tab (windowed N x) (y N x) (λ n q. y-is N x n))
+        ∙ getD-table (shortX N (y N x)) (pos 0) (N / 2) k p
+
+    short-near : ((n : ℕ) → n < N → Sample (at x n)) → natAbs (at (analyseOut Short N x out) k -ℤ X N x k) ≤ units
+    short-near samples =
+        rw (short-at, ← (X-is N x k))
+        (within-16 N tab (windowed N x)
+        (y-size N (rising N) (falling N) (part-of N tab) (λ n q. rising-size N n) (λ n q. falling-size N n) x (λ n q. sample-abs (samples n q))) k p)
+
+    short-exact : (i : ℕ) → k ≡ 3 * i + 1 → at (analyseOut Short N x out) k ≡ X N x k
+    short-exact i f = short-at ∙ ap (shortX N (windowed N x)) f ∙ middle-exact N tab (windowed N x) i ∙ ap (A.X N (windowed N x)) (sym f) ∙ X-is N x k
+
+  analysed : Analysed N x out k
+  analysed = record { direct = direct-is; short = short-is; near = short-near; exact = short-exact }
+
+-- ---- one step
+stepped-on : (s : Stream) (x out : List ℤ) → stepCode s x out ≡ 0 → Stepped-on s x out
+stepped-on s x out e = record {
+  long = rw (taken-buffer s x out e) (hop-long (s .n) s refl x);
+  hop = λ n p. rw (taken-buffer s x out e) (hop-at (s .n) s refl x n p ∙ ap (λ (z : ℤ). clamp (rnd (at (s .tail) n +ℤ z) (s .n * 2 ^ 30))) (V-is (s .n) x n));
+  n-kept = rw (taken-stream s x out e) (next-n (s .n) s refl x);
+  tail = λ n p. rw (taken-stream s x out e) (next-at (s .n) s refl x n p ∙ V-is (s .n) x (s .n / 2 + n));
+  storage = rw (taken-stream s x out e) (next-kept (s .n) s refl x);
+}
+
+-- ---- a recording is its blocks, analysed one by one
+recorded-on : (route : Route) (N B : ℕ) (x out : List ℤ) → recordedCode route N B x out ≡ 0 → Recorded-on route N B x out
+unfolding analysis part block
+recorded-on route N B x out e =
+    let f = recorded-facts route N B x out e in
+    let t = offered-tabled route N (f .offers) in
+    let g : ℕ → List ℤ = λ b. coefficients route N (block N x b) in
+    let size : (b : ℕ) → length (g b) ≡ N / 2 = λ b. coefficients-length route N (block N x b) in
+    let is : recordedOut route N B x out ≡ joined B g = sym (recorded-taken route N B x out e .1) in
+    record {
+      long = rw is (joined-length g (N / 2) size B);
+      each = λ b p room l.
+          let h : b * (N / 2) + N ≤ length x = omega (arith, f .long, within b B (N / 2) p, add-mul B 1 (N / 2), one-mul (N / 2), length-of N t .twelve) in
+          let z = analyse-0 route N (block N x b) room (f .offers) (part-length x (b * (N / 2)) N N refl h) l in
+          (z, rw is (joined-part g (N / 2) size B b p) ∙ analyse-taken route N (block N x b) room z .1);
+    }
+
+-- ---- and a synthesis is the steps of a stream
+module _ (N B : ℕ) (x out : List ℤ) (e : playedCode N B x out ≡ 0) (rooms : ℕ → List ℤ) (fit : (b : ℕ) → b < B → length (rooms b) ≡ N / 2) where
+  facts : Played N B x out
+  facts = played-facts N B x out e
+
+  offer-at : ℕ → Offer
+  offer-at b = record { brought = part N x b; buffer = rooms b }
+
+  -- block b is taken by the stream after b steps
+  taken-at : (b : ℕ) → b < B → code (streamAfter N x b) (offer-at b) ≡ 0
+  unfolding offer-at tailLimit
+  taken-at b p =
+      let s = streamAfter N x b in
+      let fine = stream-fine N (facts .length-is) B x (facts .long) (facts .range) b (omega arith) in
+      let l = part-length-is N (facts .length-is) B x (facts .long) (facts .range) b p in
+      demand-1 .stepped s (part N x b) (rooms b) .taken (rw (fine .n-is) (facts .length-is)) (sound-tail s (fine .n-is) (fine .limited)) (rw (fine .n-is) l) (rw (fine .n-is) (fit b p))
+      (record { each = part-range N (facts .length-is) B x (facts .long) (facts .range) b p .small })
+    where
+      sound-tail : (s : Stream) → s .n ≡ N → ((n : ℕ) → n < N / 2 → natAbs (at (s .tail) n) ≤ N / 2 * 2 ^ 55) → SoundTail s
+      sound-tail s i h = record { each = rw i h }
+
+  output-is : (b : ℕ) → b < B → answered (streamAfter N x b) (offer-at b) .output ≡ hop (streamAfter N x b) (part N x b)
+  unfolding answered offer-at
+  output-is b p = taken-buffer (streamAfter N x b) (part N x b) (rooms b) (taken-at b p)
+
+  stream-is : (b : ℕ) → b < B → answered (streamAfter N x b) (offer-at b) .answer .stream ≡ streamAfter N x (suc b)
+  unfolding answered offer-at streamAfter
+  stream-is b p = taken-stream (streamAfter N x b) (part N x b) (rooms b) (taken-at b p)
+
+  -- the steps from block b on
+  from : ℕ → ℕ → List Turn
+  from b count = run (streamAfter N x b) (offering N x rooms b count)
+
+  from-next : (b count : ℕ) → b < B → from b (suc count) ≡ answered (streamAfter N x b) (offer-at b) ∷ from (suc b) count
+  unfolding from offering run offer-at
+  from-next b count p = ap (λ (s : Stream). answered (streamAfter N x b) (offer-at b) ∷ run s (offering N x rooms (suc b) count)) (stream-is b p)
+
+  abbrev hops : ℕ → List ℤ
+  hops b = hop (streamAfter N x b) (part N x b)
+
+  joined-from : (count b : ℕ) → b + count ≡ B → joined B hops ≡ joined b hops ++ outputs (from b count)
+  unfolding joined outputs from offering run
+  joined-from zero b i = let f : B ≡ b = omega arith in ap (λ (k : ℕ). joined k hops) f ∙ sym (append-nil (joined b hops))
+  joined-from (suc count) b i =
+      let p : b < B = omega arith in
+      joined-from count (suc b) (omega arith)
+      ∙ append-assoc (joined b hops) (hops b) (outputs (from (suc b) count))
+      ∙ ap (λ (l : List ℤ). joined b hops ++ (l ++ outputs (from (suc b) count))) (sym (output-is b p))
+      ∙ ap (λ (ts : List Turn). joined b hops ++ outputs ts) (sym (from-next b count p))
+
+  zero-from : (count b : ℕ) → b + count ≡ B → (i : ℕ) (t : Turn) → Entry (from b count) i t → t .answer .code ≡ 0
+  unfolding from offering run
+  zero-from zero b f i t h = absurd (no-entry h refl)
+  zero-from (suc count) b f i t h = go (rw (from-next b count less) at h) (zero-from count (suc b) (omega arith))
+    where
+      less : b < B
+      less = omega arith
+
+      go : {us : List Turn} {i : ℕ} {t : Turn} → Entry (answered (streamAfter N x b) (offer-at b) ∷ us) i t → ((i : ℕ) (t : Turn) → Entry us i t → t .answer .code ≡ 0) → t .answer .code ≡ 0
+      go first ih = answered-code (streamAfter N x b) (offer-at b) ∙ taken-at b less
+      go {t = u} (later {i = k} l) ih = ih k u l
+
+  turns-are : turns N (offering N x rooms 0 B) ≡ from 0 B
+  unfolding turns from streamAfter
+  turns-are = ap (λ (m : Made). run (m .stream) (offering N x rooms 0 B)) (fresh-is N (facts .length-is))
+
+  played-on : Played-on N B x out rooms
+  unfolding synthesis joined
+  played-on = record {
+    taken = λ i t h. zero-from B 0 (omega arith) i t (rw turns-are at h);
+    hops = sym (played-taken N B x out e .1) ∙ joined-from B 0 (omega arith) ∙ ap outputs (sym turns-are);
+  }
+
+pub demand-2 : Demand-2
+demand-2 = record {
+  analysed = λ route N x out e. rw (analysed-is route N x out e) (coefficients-length route N x);
+  coefficient = analysed;
+  stepped = stepped-on;
+  recorded = recorded-on;
+  played = λ N B x out e rooms fit. played-on N B x out e rooms fit;
+}

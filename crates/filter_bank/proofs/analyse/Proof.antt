@@ -1,0 +1,62 @@
+-- `analyse` meets its contract: the causes in their order, each with the number that its law gives.
+use mathlib.Core.Path.{_≡_, refl, sym, _∙_}
+use mathlib.Core.Bool.{true}
+use borrow.Author.Tests.{not-true, not-false}
+use Rattle.filter_bank.specs.Analysis.{offered}
+use Rattle.filter_bank.specs.AnalysisLaws.{offered-tabled, analyse-1, analyse-2-in, analyse-2-out, analyse-0, analyse-refused, analyse-taken}
+use borrow.Author.Needs.{needs}
+use Rattle.filter_bank.proofs.analyse.Statement.{statement}
+use Rattle.filter_bank.proofs.analyse.Tie as tie
+
+is-offered-requires : tie.Need-is-offered-requires
+is-offered-requires c κs = search needs
+
+-- what the test of the length says
+good : (c : tie.Else1) → offered (c .before .before .args .route) (c .before .before .args .n) ≡ true
+good c = sym (c .before .is-offered .ensures) ∙ not-false (c .before .is-offered .result) (c .if1 .left)
+
+returns : tie.Need-returns
+returns c =
+    let a = c .before .before .args in
+    analyse-refused (a .route) (a .n) (a .x .now) (a .out .now) 1 refl
+    (analyse-1 (a .route) (a .n) (a .x .now) (a .out .now) (sym (c .before .is-offered .ensures) ∙ not-true (c .before .is-offered .result) (c .if1 .taken)))
+
+returns-2 : tie.Need-returns-2
+returns-2 c =
+    let a = c .before .before .before .args in
+    analyse-refused (a .route) (a .n) (a .x .now) (a .out .now) 2 refl (analyse-2-in (a .route) (a .n) (a .x .now) (a .out .now) (good (c .before)) (c .if2 .taken))
+
+returns-3 : tie.Need-returns-3
+returns-3 c =
+    let a = c .before .before .before .before .args in
+    analyse-refused (a .route) (a .n) (a .x .now) (a .out .now) 2 refl
+    (analyse-2-out (a .route) (a .n) (a .x .now) (a .out .now) (good (c .before .before)) (c .before .if2 .left) (c .if3 .taken))
+
+analyse-block-requires : tie.Need-analyse-block-requires
+analyse-block-requires c κs =
+    let e = c .before in
+    let a = e .before .before .before .before .args in
+    (offered-tabled (a .route) (a .n) (good (e .before .before)), e .before .if2 .left, e .if3 .left)
+
+same-length : tie.Need-same-length
+same-length c = search needs
+
+returns-4 : tie.Need-returns-4
+returns-4 c =
+    let e = c .before .before .before in
+    let a = e .before .before .before .before .args in
+    let t = analyse-taken (a .route) (a .n) (a .x .now) (a .out .now)
+    (analyse-0 (a .route) (a .n) (a .x .now) (a .out .now) (good (e .before .before)) (e .before .if2 .left) (e .if3 .left)) in
+    (t .0, c .before .analyse-block .ensures ∙ t .1)
+
+pub analyse-spec : {M : Type 1} → statement M
+analyse-spec =
+    tie.close
+    (tie.spec
+    is-offered-requires
+    returns
+    returns-2
+    returns-3
+    analyse-block-requires
+    same-length
+    returns-4)

@@ -1,0 +1,50 @@
+-- `analyse_block` meets its contract: each route by its own crate.
+use mathlib.Core.Path.{_≡_}
+use Rattle.recording.specs.declared.Route.the-variants.{Direct, Short}
+use Rattle.recording.specs.Analysis.{spectrum, coefficients}
+use borrow.Author.Needs.{needs}
+use Rattle.recording.proofs.analyse_block.Statement.{statement}
+use Rattle.recording.proofs.analyse_block.Tie as tie
+
+enum-told : tie.Need-enum-told
+enum-told c = search needs
+
+analyse-direct-requires : tie.Need-analyse-direct-requires
+analyse-direct-requires c κs = search needs
+
+enum-told-2 : tie.Need-enum-told-2
+enum-told-2 c = search needs
+
+analyse-requires : tie.Need-analyse-requires
+analyse-requires c κs = search needs
+
+same-length : tie.Need-same-length
+same-length c = search needs
+
+returns : tie.Need-returns
+unfolding coefficients spectrum
+returns c =
+    let e : c .before .before .before .before .before .args .route ≡ Direct = c .before .before .before .enum-told .given .1 in
+    rw e (c .before .analyse-direct .ensures)
+
+same-length-2 : tie.Need-same-length-2
+same-length-2 c = search needs
+
+returns-2 : tie.Need-returns-2
+unfolding coefficients spectrum
+returns-2 c =
+    let e : c .before .before .before .before .before .args .route ≡ Short = c .before .before .before .enum-told2 .given .1 in
+    rw e (c .before .analyse .ensures)
+
+pub analyse-block-spec : {M : Type 1} → statement M
+analyse-block-spec =
+    tie.close
+    (tie.spec
+    enum-told
+    analyse-direct-requires
+    enum-told-2
+    analyse-requires
+    same-length
+    returns
+    same-length-2
+    returns-2)

@@ -1,0 +1,23 @@
+-- A block's coefficients by a route: definitions. Document 01, 'Analysis' and 'Short route'.
+use mathlib.Core.List.{List}
+use Prim.Native.Nat.{ℕ, _*_, _/_}
+use lib.ListN.{take, drop}
+use lib.IntN.{ℤ}
+use Rattle.cosine.specs.Kernels.{rising, falling}
+use Rattle.transform.specs.Analysis.{y, direct}
+use Rattle.short_route.specs.ShortRoute.{short}
+use Rattle.recording.specs.declared.Route.{Route}
+use Rattle.recording.specs.declared.Route.the-variants.{Direct, Short}
+
+-- the M coefficients of a windowed block, by a route
+unfoldable pub spectrum : Route → ℕ → (ℕ → ℤ) → List ℤ
+spectrum Direct N y = direct N y
+spectrum Short N y = short N y
+
+-- the M coefficients of a block x of N samples, by a route, with the sine window
+unfoldable pub coefficients : Route → ℕ → List ℤ → List ℤ
+coefficients route N x = spectrum route N (y N (rising N) (falling N) x)
+
+-- block b of a recording x covers hops b and b + 1
+unfoldable pub block : ℕ → List ℤ → ℕ → List ℤ
+block N x b = take N (drop (b * (N / 2)) x)

@@ -1,0 +1,4 @@
+pub mod Analysis
+pub mod Recordings
+pub mod JoinLaws
+pub mod RecordingLaws

@@ -1,0 +1,7 @@
+pub mod ShortRoute
+pub mod ShortSizeLaws
+pub mod TripleLaws
+pub mod ShortLaws
+pub mod ShortFoldLaws
+pub mod RotationLaws
+pub mod ShortStepLaws

@@ -1,0 +1,90 @@
+-- Laws of a stream that was made fresh, step by step: its hops and its tail by their entries, and what it holds after any steps on
+-- coefficients in range.
+use mathlib.Core.Path.{_≡_, refl, _∙_}
+use mathlib.Core.List.{List, _++_}
+use Prim.Native.Nat.{ℕ, zero, suc, _+_, _-_, _*_, _/_, _^_, _≤_, _<_}
+use native.Mathlib.Omega.{arith}
+use lib.Dec.{T}
+use lib.ListN.{length, drop, replicate, length-append, length-drop, length-replicate, getD-replicate, List·getD-append}
+use lib.Seq.{drop-at}
+use lib.IntN.{ℤ, pos, natAbs, _+ℤ_}
+use Rattle.arithmetic.specs.Lists.{at, table}
+use Rattle.arithmetic.specs.Rounding.{rnd, clamp}
+use Rattle.arithmetic.specs.ListLaws.{length-table, getD-table}
+use Rattle.cosine.specs.Kernels.{tabled, rising, falling}
+use Rattle.cosine.specs.LengthLaws.{length-of, part-of}
+use Rattle.transform.specs.Synthesis.{V′}
+use Rattle.transform.specs.SizeLaws.{V-size}
+use Rattle.stream.specs.declared.Stream.{Stream}
+use Rattle.stream.specs.Synthesis as S
+use Rattle.stream.specs.Synthesis.{storage}
+use Rattle.stream.specs.Steps.{next, hop}
+use Rattle.stream.specs.StepLaws.{rising-size, falling-size}
+
+drop-replicate : {A : Type 0} (k n : ℕ) (a : A) → drop k (replicate n a) ≡ replicate (n - k) a
+drop-replicate zero n a = let e : n - 0 ≡ n = omega arith in rw e
+drop-replicate (suc k) zero a = let e : 0 - suc k ≡ 0 = omega arith in rw e
+drop-replicate (suc k) (suc n) a = let e : suc n - suc k ≡ n - k = omega arith in rw e (drop-replicate k n a)
+
+-- ---- the hop and the tail of a step that is taken, by their entries
+module _ (N : ℕ) (s : Stream) (e : s .n ≡ N) (x : List ℤ) where
+  abbrev v : ℕ → ℤ
+  v n = V′ N (rising N) (falling N) x n
+
+  pub hop-long : length (hop s x) ≡ N / 2
+  unfolding hop S.hop
+  hop-long = rw e (length-table (S.sample N (rising N) (falling N) (s .tail) x) (N / 2))
+
+  pub hop-at : (n : ℕ) → n < N / 2 → at (hop s x) n ≡ clamp (rnd (at (s .tail) n +ℤ v n) (N * 2 ^ 30))
+  unfolding hop S.hop S.sample
+  hop-at n p = rw e (getD-table (S.sample N (rising N) (falling N) (s .tail) x) (pos 0) (N / 2) n p)
+
+  pub next-n : next s x .n ≡ N
+  unfolding next
+  next-n = e
+
+  next-is : next s x .tail ≡ table (N / 2) (λ n. v (N / 2 + n)) ++ drop (N / 2) (s .tail)
+  unfolding next S.newTail
+  next-is = rw e
+
+  pub next-at : (n : ℕ) → n < N / 2 → at (next s x .tail) n ≡ v (N / 2 + n)
+  next-at n p =
+      let f : ℕ → ℤ = λ n. v (N / 2 + n) in
+      rw next-is (List·getD-append (table (N / 2) f) (drop (N / 2) (s .tail)) (pos 0) n (omega (arith, length-table f (N / 2))) ∙ getD-table f (pos 0) (N / 2) n p)
+
+  pub next-kept : drop (N / 2) (next s x .tail) ≡ drop (N / 2) (s .tail)
+  next-kept = let f : ℕ → ℤ = λ n. v (N / 2 + n) in rw next-is (drop-at (table (N / 2) f) (drop (N / 2) (s .tail)) (N / 2) (length-table f (N / 2)))
+
+  next-long : N / 2 ≤ length (s .tail) → length (next s x .tail) ≡ length (s .tail)
+  next-long h =
+      let f : ℕ → ℤ = λ n. v (N / 2 + n) in
+      rw next-is (length-append (table (N / 2) f) (drop (N / 2) (s .tail)) ∙ omega (arith, length-table f (N / 2), length-drop (N / 2) (s .tail)))
+
+-- ---- a stream of N that no step refuses for its own sake
+pub record Fine (N : ℕ) (s : Stream) : Type 0 where
+  pub n-is : s .n ≡ N
+  pub limited : (n : ℕ) → n < N / 2 → natAbs (at (s .tail) n) ≤ N / 2 * 2 ^ 55
+  pub long : length (s .tail) ≡ storage
+  pub zeros : drop (N / 2) (s .tail) ≡ replicate (storage - N / 2) (pos 0)
+
+module _ (N : ℕ) (t : T (tabled N)) where
+  room : N / 2 ≤ storage
+  room = omega (arith, length-of N t .most)
+
+  pub fine-fresh : Fine N (S.fresh N)
+  unfolding S.fresh
+  fine-fresh = record {
+    n-is = refl;
+    limited = λ n p. rw (getD-replicate storage n (pos 0) (pos 0) (omega (arith, room))) (omega arith);
+    long = length-replicate storage (pos 0);
+    zeros = drop-replicate (N / 2) storage (pos 0);
+  }
+
+  pub fine-next : (s : Stream) → Fine N s → (x : List ℤ) → ((k : ℕ) → k < N / 2 → natAbs (at x k) ≤ 2 ^ 29) → Fine N (next s x)
+  fine-next s fine x small = record {
+    n-is = next-n N s (fine .n-is) x;
+    limited = λ n p. rw (next-at N s (fine .n-is) x n p)
+        (V-size N (rising N) (falling N) (part-of N t) (λ n q. rising-size N n) (λ n q. falling-size N n) x small (N / 2 + n) (omega (arith, part-of N t .four)));
+    long = next-long N s (fine .n-is) x (omega (arith, room, fine .long)) ∙ fine .long;
+    zeros = next-kept N s (fine .n-is) x ∙ fine .zeros;
+  }
