@@ -1,26 +1,26 @@
 -- Laws of the public calls' numbers: `demand-1`, that every call answers as document 01's table of causes says.
-use mathlib.Core.Path.{_≡_, refl, sym, _∙_}
-use mathlib.Core.Logic.{_≢_}
+use mathlib.Core.Path.{_≡_, refl}
 use mathlib.Core.Bool.{Bool, true, false, cond}
-use mathlib.Core.List.{List, []}
-use Prim.Native.Nat.{ℕ, _+_, _*_, _/_, _^_, _≤_, _<_}
-use lib.Dec.{T, eqb, leb}
-use lib.ListN.{length, drop}
-use lib.IntN.{ℤ, natAbs}
+use mathlib.Core.List.{List}
+use Prim.Native.Nat.{ℕ, _+_, _*_, _/_}
+use lib.Dec.{eqb}
+use lib.ListN.{length}
+use lib.IntN.{ℤ}
 use borrow.Author.Tests.{le-leb, eq-eqb, ne-eqb}
-use Rattle.arithmetic.specs.Lists.{at, all}
+use Rattle.arithmetic.specs.Lists.{at}
 use Rattle.arithmetic.specs.TestLaws.{cond-yes, cond-no, all-make}
 use Rattle.cosine.specs.Kernels.{tabled}
+use Rattle.short_route.specs.ShortRoute as R
 use Rattle.stream.specs.declared.Stream.{Stream}
 use Rattle.stream.specs.Synthesis as S
 use Rattle.recording.specs.declared.Route.{Route}
 use Rattle.recording.specs.declared.Route.the-variants.{Direct, Short}
-use Rattle.recording.specs.Analysis.{coefficients}
+use Rattle.recording.specs.Analysis.{offered, coefficients}
 use Rattle.recording.specs.Recordings.{analysis, synthesis}
 use Rattle.filter_bank.specs.declared.Made.{Made}
-use Rattle.filter_bank.specs.Analysis.{offered, analyseCode, analyseOut}
-use Rattle.filter_bank.specs.Streams.{within, tailLimit, coefficientLimit, fresh, sound, inRange, stepCode, step, stepOut}
-use Rattle.filter_bank.specs.StreamLaws.{is-T, is-true, is-false, range-small, sound-tabled, sound-bounded}
+use Rattle.filter_bank.specs.Analysis.{analyseCode, analyseOut}
+use Rattle.filter_bank.specs.Streams.{within, tailLimit, coefficientLimit, fresh, sound, inRange, stepCode, step}
+use Rattle.filter_bank.specs.StreamLaws.{is-true, is-false, range-small, sound-tabled, sound-bounded}
 use Rattle.filter_bank.specs.Recordings.{blockLimit, counted, recordedCode, recordedOut, playedCode, playedOut, shaped, innerFrom, innerOf}
 use Rattle.filter_bank.specs.RecordingLaws.{counted-some, counted-most}
 use Rattle.demands.specs.StepLaws.{abs-within, sound-of, code-other, refused-stream, refused-buffer}
@@ -29,12 +29,12 @@ use Rattle.demands.specs.Demands.{Tabled, Counted, InRange, SoundTail, A
 -- ---- the causes as tests
 module _ (N : ℕ) where
   offers : Tabled N → (route : Route) → offered route N ≡ true
-  unfolding offered
+  unfolding offered R.offered
   offers t Direct = is-true t
   offers t Short = is-true t
 
   declines : ¬ Tabled N → (route : Route) → offered route N ≡ false
-  unfolding offered
+  unfolding offered R.offered
   declines n Direct = is-false n
   declines n Short = is-false n
 

@@ -20,19 +20,20 @@ use Rattle.stream.specs.Steps.{hop}
 use Rattle.stream.specs.NextLaws.{hop-at, next-at}
 use Rattle.recording.specs.declared.Route.{Route}
 use Rattle.recording.specs.declared.Route.the-variants.{Direct}
-use Rattle.recording.specs.Analysis.{coefficients, block}
+use Rattle.recording.specs.Analysis.{offered, coefficients, block}
 use Rattle.recording.specs.Recordings.{part, streamAfter, analysis, synthesis}
 use Rattle.recording.specs.JoinLaws.{within, joined-length, joined-at}
 use Rattle.recording.specs.RecordingLaws.{coefficients-length, stream-n, hop-length, part-length-is}
-use Rattle.filter_bank.specs.Analysis.{analyseCode, analyseOut}
-use Rattle.filter_bank.specs.AnalysisLaws.{analyse-taken}
-use Rattle.filter_bank.specs.Recordings.{recordedCode, recordedOut, playedCode, playedOut, innerOf}
+use Rattle.filter_bank.specs.AnalysisLaws.{analysed-offered, analyse-taken}
+use Rattle.filter_bank.specs.StreamLaws.{is-T}
+use Rattle.filter_bank.specs.Recordings.{playedCode, playedOut, innerOf}
 use Rattle.filter_bank.specs.RecordingLaws.{counted-some, Recorded, recorded-facts, recorded-taken, Played, played-facts, played-taken, shaped-of}
 use Rattle.demands.specs.Steps.{Recording, Brought, change}
 use Rattle.demands.specs.RecordingLaws.{back-near, back-same}
 use Rattle.demands.specs.Recordings.{ByOneCall, BlockByBlock, Back}
 
 module _ (N B Q : ℕ) (routes : ℕ → Route) (x X out : List ℤ) (rec : Recording N (B + 1) x) (played : playedCode N B X out ≡ 0)
+    (offers : (b : ℕ) → b < B → T (offered (routes b) N))
     (changed : (b : ℕ) → b < B → (k : ℕ) → k < N / 2 → natAbs (at X (b * (N / 2) + k) -ℤ at (coefficients (routes b) N (block N x b)) k) ≤ Q) where
   facts : Played N B X out
   facts = played-facts N B X out played
@@ -62,6 +63,7 @@ module _ (N B Q : ℕ) (routes : ℕ → Route) (x X out : List ℤ) (rec : Reco
   brought : (b : ℕ) → b < B → Brought N (B + 1) Q routes x b (part N X b)
   brought b p = record {
     covered = omega arith;
+    offers = offers b p;
     long = part-length-is N tab B X (facts .long) (facts .range) b p;
     near = λ k q. rw (part-entry b p k q) (changed b p k q);
   }
@@ -139,7 +141,7 @@ back-by-one-call N B Q route x X out samples given played =
     let some = counted-some B (f .blocks) in
     let is = recorded-taken route N B x (given .buffer) (given .taken) .1 in
     let rec : Recording N (B + 1) x = record { hops = omega arith; long = f .long; sample = samples } in
-    back N B Q (λ b. route) x X out rec played
+    back N B Q (λ b. route) x X out rec played (λ b p. is-T (f .offers))
     (λ b p k q.
     let e = joined-at (λ b. coefficients route N (block N x b)) (N / 2) (λ b. coefficients-length route N (block N x b)) B b k p q in
     rw (e) at (rw (← is) at (given .near (b * (N / 2) + k) (omega (arith, within b B (N / 2) p)))))
@@ -148,5 +150,5 @@ back-by-one-call N B Q route x X out samples given played =
 pub back-block-by-block : (N B Q : ℕ) (routes : ℕ → Route) (x X out : List ℤ) → Recording N (B + 1) x → BlockByBlock N B Q routes x X →
     playedCode N B X out ≡ 0 → Back N B Q routes x (playedOut N B X out)
 back-block-by-block N B Q routes x X out rec given played =
-    back N B Q routes x X out rec played
+    back N B Q routes x X out rec played (λ b p. analysed-offered (routes b) N (block N x b) (given .buffer b) (given .taken b p))
     (λ b p k q. rw (← (analyse-taken (routes b) N (block N x b) (given .buffer b) (given .taken b p) .1)) at (given .near b p k q))

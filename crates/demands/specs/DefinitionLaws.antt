@@ -1,45 +1,44 @@
 -- Laws of what the public calls compute: `demand-2`, that every coefficient and every sample is document 01's.
-use mathlib.Core.Path.{_≡_, refl, sym, ap, ap₂, _∙_}
-use mathlib.Core.Bool.{Bool, true, false, cond}
-use mathlib.Core.List.{List, [], _∷_, _++_, append-assoc, append-nil}
+use mathlib.Core.Path.{_≡_, refl, sym, ap, _∙_}
+use mathlib.Core.List.{List, _∷_, _++_, append-assoc, append-nil}
 use Prim.Native.Nat.{ℕ, zero, suc, _+_, _-_, _*_, _/_, _^_, _≤_, _<_}
 use native.Mathlib.Nat.{add-mul, one-mul}
 use native.Mathlib.Omega.{arith}
 use native.Mathlib.Decide.{decLt}
-use lib.Dec.{T, eqb, eqb→eq}
-use lib.ListN.{length, take, drop}
-use lib.IntN.{ℤ, pos, natAbs, _+ℤ_, _-ℤ_, _*ℤ_}
+use lib.Dec.{T}
+use lib.ListN.{length}
+use lib.IntN.{ℤ, pos, natAbs, _+ℤ_, _-ℤ_}
 use Rattle.arithmetic.specs.Rounding.{rnd, clamp}
 use Rattle.arithmetic.specs.RoundingLaws.{Sample, sample-abs}
-use Rattle.arithmetic.specs.Sums.{sum}
 use Rattle.arithmetic.specs.Lists.{at}
 use Rattle.arithmetic.specs.ListLaws.{getD-table, part-length}
 use Rattle.arithmetic.specs.TestLaws.{cond-lt, cond-ge}
-use Rattle.cosine.specs.Kernels.{tabled, W, rising, falling, K}
+use Rattle.cosine.specs.Kernels.{tabled, W, rising, falling}
 use Rattle.cosine.specs.LengthLaws.{length-of, part-of}
 use Rattle.transform.specs.Analysis as A
 use Rattle.transform.specs.Synthesis as Y
 use Rattle.transform.specs.SizeLaws.{y-size}
 use Rattle.transform.specs.DirectLaws.{S-ext}
 use Rattle.short_route.specs.ShortRoute.{shortX, short, units}
+use Rattle.short_route.specs.ShortRoute as R
 use Rattle.short_route.specs.ShortLaws.{middle-exact, within-16}
 use Rattle.short_route.specs.ShortStepLaws.{short-ext}
 use Rattle.stream.specs.declared.Stream.{Stream}
-use Rattle.stream.specs.Steps.{next, hop}
+use Rattle.stream.specs.Steps.{hop}
 use Rattle.stream.specs.StepLaws.{rising-size, falling-size}
 use Rattle.stream.specs.NextLaws.{hop-long, hop-at, next-n, next-at, next-kept}
 use Rattle.recording.specs.declared.Route.{Route}
 use Rattle.recording.specs.declared.Route.the-variants.{Direct, Short}
-use Rattle.recording.specs.Analysis.{coefficients, block}
+use Rattle.recording.specs.Analysis.{offered, coefficients, block}
 use Rattle.recording.specs.Recordings.{joined, part, streamAfter, analysis, synthesis}
 use Rattle.recording.specs.JoinLaws.{within, joined-length, joined-part}
-use Rattle.recording.specs.RecordingLaws.{coefficients-length, hop-length, part-length-is, part-range, stream-fine}
+use Rattle.recording.specs.RecordingLaws.{offered-tabled, coefficients-length, part-length-is, part-range, stream-fine}
 use Rattle.filter_bank.specs.declared.Made.{Made}
-use Rattle.filter_bank.specs.Analysis.{offered, analyseCode, analyseOut}
-use Rattle.filter_bank.specs.AnalysisLaws.{offered-tabled, analyse-0, analyse-taken}
-use Rattle.filter_bank.specs.StreamLaws.{is-true}
-use Rattle.filter_bank.specs.Streams.{tailLimit, fresh, stepCode, step, stepOut}
-use Rattle.filter_bank.specs.Recordings.{recordedCode, recordedOut, playedCode, playedOut}
+use Rattle.filter_bank.specs.Analysis.{analyseCode, analyseOut}
+use Rattle.filter_bank.specs.AnalysisLaws.{analysed-offered, analyse-0, analyse-taken}
+use Rattle.filter_bank.specs.StreamLaws.{is-T}
+use Rattle.filter_bank.specs.Streams.{tailLimit, stepCode}
+use Rattle.filter_bank.specs.Recordings.{recordedCode, recordedOut, playedCode}
 use Rattle.filter_bank.specs.RecordingLaws.{recorded-facts, recorded-taken, Played, played-facts, played-taken}
 use Rattle.demands.specs.StepLaws.{taken-stream, taken-buffer}
 use Rattle.demands.specs.RecordingLaws.{windowed, by-direct, by-short}
@@ -49,7 +48,7 @@ use Rattle.demands.specs.RunLaws.{code, answered-code, no-entry}
 use Rattle.demands.specs.StreamLaws.{fresh-is}
 use Rattle.demands.specs.AnswerLaws.{demand-1}
 use Rattle.demands.specs.Recordings.{offering, outputs}
-use Rattle.demands.specs.Demands.{InRange, SoundTail, y, X, V′, Analysed, Stepped-on, Recorded-on, Played-on, Demand-2}
+use Rattle.demands.specs.Demands.{SoundTail, y, X, V′, Analysed, Stepped-on, Recorded-on, Played-on, Demand-2}
 
 -- ---- the window of the sine joints is W
 window-is : (N n : ℕ) → A.window N (rising N) (falling N) n ≡ W N n
@@ -75,15 +74,7 @@ unfolding A.X A.S
 X-is N x k = ap (λ (z : ℤ). rnd z (2 ^ 28)) (S-ext N (windowed N x) (y N x) (λ n p. y-is N x n) k)
 
 -- ---- one block
-analysed-checks : (a b c : Bool) → _≡_ {A = ℕ} (cond a (cond b (cond c 0 2) 2) 1) 0 → T a
-analysed-checks true b c h = tt
-analysed-checks false b c h = absurd (omega arith)
-
 module _ (route : Route) (N : ℕ) (x out : List ℤ) (e : analyseCode route N x out ≡ 0) where
-  analysed-tabled : T (tabled N)
-  unfolding analyseCode
-  analysed-tabled = offered-tabled route N (is-true (analysed-checks (offered route N) (eqb (length x) N) (eqb (length out) (N / 2)) e))
-
   analysed-is : analyseOut route N x out ≡ coefficients route N x
   analysed-is = sym (analyse-taken route N x out e .1)
 
@@ -92,8 +83,12 @@ module _ (N : ℕ) (x out : List ℤ) (k : ℕ) (p : k < N / 2) where
   direct-is e = rw (analysed-is Direct N x out e) (by-direct N x k p ∙ X-is N x k)
 
   module _ (e : analyseCode Short N x out ≡ 0) where
+    short-offered : T (R.offered N)
+    unfolding offered
+    short-offered = analysed-offered Short N x out e
+
     tab : T (tabled N)
-    tab = analysed-tabled Short N x out e
+    tab = offered-tabled Short N (analysed-offered Short N x out e)
 
     short-at : at (analyseOut Short N x out) k ≡ shortX N (windowed N x) k
     short-at = rw (analysed-is Short N x out e) (by-short N x k p)
@@ -103,17 +98,17 @@ module _ (N : ℕ) (x out : List ℤ) (k : ℕ) (p : k < N / 2) where
     short-is =
         short-at
         ∙ sym (getD-table (shortX N (windowed N x)) (pos 0) (N / 2) k p)
-        ∙ ap (λ (l : List ℤ). at l k) (short-ext N tab (windowed N x) (y N x) (λ n q. y-is N x n))
+        ∙ ap (λ (l : List ℤ). at l k) (short-ext N short-offered (windowed N x) (y N x) (λ n q. y-is N x n))
         ∙ getD-table (shortX N (y N x)) (pos 0) (N / 2) k p
 
     short-near : ((n : ℕ) → n < N → Sample (at x n)) → natAbs (at (analyseOut Short N x out) k -ℤ X N x k) ≤ units
     short-near samples =
         rw (short-at, ← (X-is N x k))
-        (within-16 N tab (windowed N x)
+        (within-16 N short-offered (windowed N x)
         (y-size N (rising N) (falling N) (part-of N tab) (λ n q. rising-size N n) (λ n q. falling-size N n) x (λ n q. sample-abs (samples n q))) k p)
 
     short-exact : (i : ℕ) → k ≡ 3 * i + 1 → at (analyseOut Short N x out) k ≡ X N x k
-    short-exact i f = short-at ∙ ap (shortX N (windowed N x)) f ∙ middle-exact N tab (windowed N x) i ∙ ap (A.X N (windowed N x)) (sym f) ∙ X-is N x k
+    short-exact i f = short-at ∙ ap (shortX N (windowed N x)) f ∙ middle-exact N short-offered (windowed N x) i ∙ ap (A.X N (windowed N x)) (sym f) ∙ X-is N x k
 
   analysed : Analysed N x out k
   analysed = record { direct = direct-is; short = short-is; near = short-near; exact = short-exact }
@@ -133,7 +128,7 @@ recorded-on : (route : Route) (N B : ℕ) (x out : List ℤ) → recordedCode ro
 unfolding analysis part block
 recorded-on route N B x out e =
     let f = recorded-facts route N B x out e in
-    let t = offered-tabled route N (f .offers) in
+    let t = offered-tabled route N (is-T (f .offers)) in
     let g : ℕ → List ℤ = λ b. coefficients route N (block N x b) in
     let size : (b : ℕ) → length (g b) ≡ N / 2 = λ b. coefficients-length route N (block N x b) in
     let is : recordedOut route N B x out ≡ joined B g = sym (recorded-taken route N B x out e .1) in

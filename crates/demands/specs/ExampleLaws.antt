@@ -20,9 +20,9 @@ use Rattle.transform.specs.Analysis.{window, y, S, X, direct}
 use Rattle.short_route.specs.ShortRoute as R
 use Rattle.transform.specs.Synthesis.{U, V′}
 use Rattle.stream.specs.Synthesis as Y
-use Rattle.recording.specs.Analysis.{spectrum, coefficients, block}
+use Rattle.recording.specs.Analysis.{offered, spectrum, coefficients, block}
 use Rattle.stream.specs.Steps.{next, hop}
-use Rattle.filter_bank.specs.Analysis.{offered, analyseCode, analyseOut}
+use Rattle.filter_bank.specs.Analysis.{analyseCode, analyseOut}
 use Rattle.filter_bank.specs.Recordings.{counted, playedCode, playedOut}
 use Rattle.filter_bank.specs.Streams.{within, tailLimit, fresh, soundTail, sound, inRange, stepCode, step, stepOut}
 use Rattle.demands.specs.Steps.{Offer, Turn, answered, run, taken, offers-of, turns, Entry, Recording, Brought, InOrder, change, Returned}
@@ -53,6 +53,10 @@ example = tt
 computed : Unit {0}
 unfolding floor rnd clamp sum table all every cosines analysis synthesis example
 computed = tt
+
+answers : Unit {0}
+unfolding computed R.offered offered analyseCode analyseOut counted playedCode whole hops-room
+answers = tt
 
 -- the numbers that the steps return
 codes-of : List Turn → List ℕ
@@ -105,20 +109,20 @@ near-2 : T (near 2 block-2)
 unfolding computed near
 near-2 = tt
 
-brought : (b : ℕ) (c : List ℤ) → b + 1 < 4 → length c ≡ 6 → T (near b c) → Brought 12 4 7 routes recording b c
+brought : (b : ℕ) (c : List ℤ) → b + 1 < 4 → T (offered (routes b) 12) → length c ≡ 6 → T (near b c) → Brought 12 4 7 routes recording b c
 unfolding near
-brought b c p e t =
+brought b c p o e t =
     let off : ℕ → ℕ = λ k. natAbs (at c k -ℤ at (coefficients (routes b) 12 (block 12 recording b)) k) in
-    record { covered = p; long = e; near = λ k q. leb→le (off k) 7 (all-at 6 (λ k. leb (off k) 7) t k q) }
+    record { covered = p; offers = o; long = e; near = λ k q. leb→le (off k) 7 (all-at 6 (λ k. leb (off k) 7) t k q) }
 
 -- the taken steps bring blocks 0, 1 and 2
 in-order : InOrder 12 4 7 routes recording offers
 in-order = record { each = λ j t e. go (rw taken-offers at (entry-offer e)) }
   where
     go : {j : ℕ} {o : Offer} → Entry (offer block-0 room ∷ offer block-1 room ∷ offer block-2 room ∷ []) j o → Brought 12 4 7 routes recording j (o .brought)
-    go first = brought 0 block-0 (lit< tt) (unfold computed in refl) near-0
-    go (later first) = brought 1 block-1 (lit< tt) (unfold computed in refl) near-1
-    go (later (later first)) = brought 2 block-2 (lit< tt) (unfold computed in refl) near-2
+    go first = brought 0 block-0 (lit< tt) (unfold answers in tt) (unfold computed in refl) near-0
+    go (later first) = brought 1 block-1 (lit< tt) (unfold answers in tt) (unfold computed in refl) near-1
+    go (later (later first)) = brought 2 block-2 (lit< tt) (unfold answers in tt) (unfold computed in refl) near-2
     go (later (later (later e))) = absurd (no-entry e refl)
 
 -- ---- the theorem
@@ -164,10 +168,6 @@ hop-2 = taken-step 2 (offer block-2 room) (λ out. (n : ℕ) → n < 6 → natAb
     (λ t e n p. rw (six-at 12 n p, getD-replicate 6 n (pos 5) (pos 0) p) at (returned .hop-near 1 t e n p))
 
 -- ---- the calls over whole recordings: three blocks, analysed one by one, the last by the short route
-answers : Unit {0}
-unfolding computed offered analyseCode analyseOut counted playedCode whole hops-room
-answers = tt
-
 played : playedCode 12 3 whole hops-room ≡ 0
 unfolding answers
 played = refl

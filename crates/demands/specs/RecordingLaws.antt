@@ -25,7 +25,7 @@ use Rattle.reconstruction.specs.Neighbours.{Neighbours}
 use Rattle.reconstruction.specs.DistanceLaws.{sine-neighbours, returned-each, returned-same}
 use Rattle.recording.specs.declared.Route.{Route}
 use Rattle.recording.specs.declared.Route.the-variants.{Direct, Short}
-use Rattle.recording.specs.Analysis.{spectrum, coefficients, block}
+use Rattle.recording.specs.Analysis.{offered, spectrum, coefficients, block}
 use Rattle.demands.specs.Steps.{Recording, Brought, change}
 
 -- ---- the change that is allowed where two blocks meet is no less than that of each
@@ -61,12 +61,12 @@ module _ (N : ℕ) (x : List ℤ) (k : ℕ) (p : k < N / 2) where
   unfolding coefficients spectrum short
   by-short = getD-table (shortX N (windowed N x)) (pos 0) (N / 2) k p
 
-pub near-direct : (N : ℕ) → T (tabled N) → (x : List ℤ) → ((n : ℕ) → n < N → natAbs (windowed N x n) ≤ 2 ^ 23) →
-    (Q : ℕ) (route : Route) (c : ℤ) (k : ℕ) → k < N / 2 → natAbs (c -ℤ at (coefficients route N x) k) ≤ Q → natAbs (c -ℤ X N (windowed N x) k) ≤ change Q route route
-unfolding change
-near-direct N t x y≤ Q Direct c k p h = rw (by-direct N x k p) at h
-near-direct N t x y≤ Q Short c k p h =
-    abs-via c (shortX N (windowed N x) k) (X N (windowed N x) k) (rw (by-short N x k p) at h) (within-16 N t (windowed N x) y≤ k p)
+pub near-direct : (N : ℕ) (x : List ℤ) → ((n : ℕ) → n < N → natAbs (windowed N x n) ≤ 2 ^ 23) →
+    (Q : ℕ) (route : Route) → T (offered route N) → (c : ℤ) (k : ℕ) → k < N / 2 → natAbs (c -ℤ at (coefficients route N x) k) ≤ Q → natAbs (c -ℤ X N (windowed N x) k) ≤ change Q route route
+unfolding change offered
+near-direct N x y≤ Q Direct o c k p h = rw (by-direct N x k p) at h
+near-direct N x y≤ Q Short o c k p h =
+    abs-via c (shortX N (windowed N x) k) (X N (windowed N x) k) (rw (by-short N x k p) at h) (within-16 N o (windowed N x) y≤ k p)
 
 module _ (N : ℕ) (t : T (tabled N)) (H : ℕ) (x : List ℤ) (rec : Recording N H x) where
   len : Part N
@@ -108,10 +108,10 @@ module _ (N : ℕ) (t : T (tabled N)) (H : ℕ) (x : List ℤ) (rec : Recording 
     nb = neighbours b (brought₂ .covered)
 
     near₁ : (k : ℕ) → k < N / 2 → natAbs (at c₁ k -ℤ X N (windowed N (block N x b)) k) ≤ Q′
-    near₁ k p = le-trans (near-direct N t (block N x b) (windowed-size b (brought₁ .covered)) Q (routes b) (at c₁ k) k p (brought₁ .near k p)) (change-first Q (routes b) (routes (suc b)))
+    near₁ k p = le-trans (near-direct N (block N x b) (windowed-size b (brought₁ .covered)) Q (routes b) (brought₁ .offers) (at c₁ k) k p (brought₁ .near k p)) (change-first Q (routes b) (routes (suc b)))
 
     near₂ : (k : ℕ) → k < N / 2 → natAbs (at c₂ k -ℤ X N (windowed N (block N x (suc b))) k) ≤ Q′
-    near₂ k p = le-trans (near-direct N t (block N x (suc b)) (windowed-size (suc b) (brought₂ .covered)) Q (routes (suc b)) (at c₂ k) k p (brought₂ .near k p)) (change-second Q (routes b) (routes (suc b)))
+    near₂ k p = le-trans (near-direct N (block N x (suc b)) (windowed-size (suc b) (brought₂ .covered)) Q (routes (suc b)) (brought₂ .offers) (at c₂ k) k p (brought₂ .near k p)) (change-second Q (routes b) (routes (suc b)))
 
     pub back-near : (n : ℕ) → n < N / 2 → natAbs (back n -ℤ at x (suc b * (N / 2) + n)) ≤ (Q′ + 8) / 16
     back-near n p = rw (← (block-at (suc b) n (omega arith))) (returned-each N t nb Q′ c₁ c₂ near₁ near₂ n p)

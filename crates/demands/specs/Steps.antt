@@ -5,7 +5,7 @@ use mathlib.Core.Logic.{_≢_}
 use mathlib.Core.Bool.{cond}
 use mathlib.Core.List.{List, [], _∷_}
 use Prim.Native.Nat.{ℕ, suc, _+_, _-_, _*_, _/_, _≤_, _<_}
-use lib.Dec.{eqb}
+use lib.Dec.{T, eqb}
 use lib.ListN.{length, drop, replicate}
 use lib.IntN.{ℤ, pos, natAbs, _-ℤ_}
 use Rattle.arithmetic.specs.Lists.{at}
@@ -16,7 +16,7 @@ use Rattle.stream.specs.declared.Stream.{Stream}
 use Rattle.recording.specs.declared.Route.{Route}
 use Rattle.recording.specs.declared.Route.the-variants.{Direct, Short}
 use Rattle.filter_bank.specs.declared.Stepped.{Stepped}
-use Rattle.recording.specs.Analysis.{coefficients, block}
+use Rattle.recording.specs.Analysis.{offered, coefficients, block}
 use Rattle.filter_bank.specs.Streams.{fresh, step, stepOut}
 
 -- ---- the list of steps
@@ -79,10 +79,11 @@ pub record Recording (N H : ℕ) (x : List ℤ) : Type 0 where
   pub long : length x ≡ H * (N / 2)
   pub sample : (i : ℕ) → i < length x → Sample (at x i)
 
--- c are the M coefficients of block b of x, analysed by its own route, each changed by a whole number from -Q to Q. That they are in range isn't
+-- c are the M coefficients of block b of x, analysed by its own route, which is offered at N, each changed by a whole number from -Q to Q. That they are in range isn't
 -- asked: a step that takes them says so
 pub record Brought (N H Q : ℕ) (routes : ℕ → Route) (x : List ℤ) (b : ℕ) (c : List ℤ) : Type 0 where
   pub covered : b + 1 < H
+  pub offers : T (offered (routes b) N)
   pub long : length c ≡ N / 2
   pub near : (k : ℕ) → k < N / 2 → natAbs (at c k -ℤ at (coefficients (routes b) N (block N x b)) k) ≤ Q
 

@@ -1,19 +1,12 @@
 -- What `analyse` answers: definitions. Document 01, 'Analysis', 'Short route' and 'When the bank declines'.
-use mathlib.Core.Bool.{Bool, cond}
+use mathlib.Core.Bool.{cond}
 use mathlib.Core.List.{List}
 use Prim.Native.Nat.{ℕ, _/_}
 use lib.Dec.{eqb}
 use lib.ListN.{length}
 use lib.IntN.{ℤ}
-use Rattle.cosine.specs.Kernels.{tabled}
 use Rattle.recording.specs.declared.Route.{Route}
-use Rattle.recording.specs.declared.Route.the-variants.{Direct, Short}
-use Rattle.recording.specs.Analysis.{coefficients}
-
--- the lengths at which a route is offered
-unfoldable pub offered : Route → ℕ → Bool
-offered Direct N = tabled N
-offered Short N = tabled N
+use Rattle.recording.specs.Analysis.{offered, coefficients}
 
 -- the number that `analyse` returns: 1 where the route is not offered at N, then 2 where a buffer's length differs from the stated one
 unfoldable pub analyseCode : Route → ℕ → List ℤ → List ℤ → ℕ

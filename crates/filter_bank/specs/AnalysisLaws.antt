@@ -1,23 +1,16 @@
 -- Laws of `analyse`: its number by its causes, and what follows from the number.
-use mathlib.Core.Path.{_≡_, refl, sym, ap, _∙_}
-use mathlib.Core.Bool.{true, false}
+use mathlib.Core.Path.{_≡_, sym}
+use mathlib.Core.Bool.{Bool, true, false, cond}
 use mathlib.Core.List.{List}
 use Prim.Native.Nat.{ℕ, _/_}
+use native.Mathlib.Omega.{arith}
 use lib.Dec.{T, eqb}
 use lib.ListN.{length}
 use lib.IntN.{ℤ}
 use borrow.Author.Tests.{eq-eqb, ne-eqb}
-use Rattle.cosine.specs.Kernels.{tabled}
 use Rattle.recording.specs.declared.Route.{Route}
-use Rattle.recording.specs.declared.Route.the-variants.{Direct, Short}
-use Rattle.recording.specs.Analysis.{coefficients}
-use Rattle.filter_bank.specs.Analysis.{offered, analyseCode, analyseOut}
-
--- a route is offered at tabled lengths only
-pub offered-tabled : (route : Route) (N : ℕ) → offered route N ≡ true → T (tabled N)
-unfolding offered
-offered-tabled Direct N e = rw e tt
-offered-tabled Short N e = rw e tt
+use Rattle.recording.specs.Analysis.{offered, coefficients}
+use Rattle.filter_bank.specs.Analysis.{analyseCode, analyseOut}
 
 module _ (route : Route) (N : ℕ) (x out : List ℤ) where
   pub analyse-1 : offered route N ≡ false → analyseCode route N x out ≡ 1
@@ -37,6 +30,15 @@ module _ (route : Route) (N : ℕ) (x out : List ℤ) where
       pub analyse-0 : length out ≡ N / 2 → analyseCode route N x out ≡ 0
       unfolding analyseCode
       analyse-0 c = rw (a, eq-eqb (length x) N b, eq-eqb (length out) (N / 2) c)
+
+  -- a taken block's route is offered
+  pub analysed-offered : analyseCode route N x out ≡ 0 → T (offered route N)
+  unfolding analyseCode
+  analysed-offered e = first (offered route N) (eqb (length x) N) (eqb (length out) (N / 2)) e
+    where
+      first : (a b c : Bool) → _≡_ {A = ℕ} (cond a (cond b (cond c 0 2) 2) 1) 0 → T a
+      first true b c h = tt
+      first false b c h = absurd (omega arith)
 
   pub analyse-refused : (c : ℕ) → eqb c 0 ≡ false → analyseCode route N x out ≡ c → (c ≡ analyseCode route N x out) × (out ≡ analyseOut route N x out)
   unfolding analyseOut

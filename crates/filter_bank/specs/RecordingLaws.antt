@@ -1,5 +1,5 @@
 -- Laws of the calls over whole recordings: their numbers by their causes, what follows from the number, and the sizes that the checks leave.
-use mathlib.Core.Path.{_≡_, refl, sym}
+use mathlib.Core.Path.{_≡_, sym}
 use mathlib.Core.Bool.{Bool, true, false, cond}
 use mathlib.Core.List.{List}
 use Prim.Native.Nat.{ℕ, _+_, _*_, _/_, _^_, _≤_}
@@ -15,7 +15,7 @@ use Rattle.cosine.specs.Kernels.{tabled}
 use Rattle.cosine.specs.LengthLaws.{length-of}
 use Rattle.recording.specs.declared.Route.{Route}
 use Rattle.recording.specs.Recordings.{analysis, synthesis}
-use Rattle.filter_bank.specs.Analysis.{offered}
+use Rattle.recording.specs.Analysis.{offered}
 use Rattle.filter_bank.specs.Streams.{inRange}
 use Rattle.filter_bank.specs.StreamLaws.{is-T, is-true, range-small}
 use Rattle.filter_bank.specs.Recordings.{blockLimit, counted, recordedCode, recordedOut, playedCode, playedOut, shaped}

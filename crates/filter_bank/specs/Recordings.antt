@@ -8,7 +8,7 @@ use lib.IntN.{ℤ}
 use Rattle.cosine.specs.Kernels.{tabled}
 use Rattle.recording.specs.declared.Route.{Route}
 use Rattle.recording.specs.Recordings.{analysis, synthesis}
-use Rattle.filter_bank.specs.Analysis.{offered}
+use Rattle.recording.specs.Analysis.{offered}
 use Rattle.filter_bank.specs.Streams.{inRange}
 
 -- B is 1 to 4,096

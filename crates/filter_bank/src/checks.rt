@@ -6,7 +6,7 @@ ghost use lib.ListN.{length};
 ghost use Rattle.arithmetic.specs.Lists.{at, all};
 ghost use Rattle.cosine.specs.Kernels.{tabled};
 ghost use Rattle.stream.specs.Synthesis.{storage};
-ghost use Rattle.filter_bank.specs.Analysis.{offered};
+ghost use Rattle.recording.specs.Analysis.{offered};
 ghost use Rattle.filter_bank.specs.Recordings.{counted, shaped};
 ghost use Rattle.filter_bank.specs.Streams.{within, tailLimit, inRange};
 use recording::Route;

@@ -8,21 +8,27 @@ use native.Mathlib.Omega.{arith}
 use lib.Dec.{T}
 use lib.ListN.{length, take, drop}
 use lib.IntN.{ℤ}
-use Rattle.arithmetic.specs.Lists.{at, Small}
+use Rattle.arithmetic.specs.Lists.{Small}
 use Rattle.arithmetic.specs.ListLaws.{length-table, part-length, part-small}
 use Rattle.cosine.specs.Kernels.{tabled, rising, falling}
 use Rattle.cosine.specs.LengthLaws.{length-of}
 use Rattle.transform.specs.Analysis.{y, X, direct}
 use Rattle.short_route.specs.ShortRoute.{shortX, short}
-use Rattle.stream.specs.declared.Stream.{Stream}
+use Rattle.short_route.specs.OfferLaws as O
 use Rattle.stream.specs.Synthesis.{fresh}
 use Rattle.stream.specs.Steps.{next, hop}
 use Rattle.stream.specs.NextLaws.{Fine, fine-fresh, fine-next, next-n, hop-long}
 use Rattle.recording.specs.declared.Route.{Route}
 use Rattle.recording.specs.declared.Route.the-variants.{Direct, Short}
-use Rattle.recording.specs.Analysis.{spectrum, coefficients, block}
+use Rattle.recording.specs.Analysis.{offered, spectrum, coefficients, block}
 use Rattle.recording.specs.Recordings.{part, streamAfter}
 use Rattle.recording.specs.JoinLaws.{within}
+
+-- a route is offered at tabled lengths only
+pub offered-tabled : (route : Route) (N : ℕ) → T (offered route N) → T (tabled N)
+unfolding offered
+offered-tabled Direct N o = o
+offered-tabled Short N o = O.offered-tabled N o
 
 -- M coefficients by either route
 spectrum-length : (route : Route) (N : ℕ) (u : ℕ → ℤ) → length (spectrum route N u) ≡ N / 2

@@ -6,7 +6,7 @@ ghost use lib.Dec.{T};
 ghost use lib.ListN.{length};
 ghost use Rattle.arithmetic.specs.Lists.{Small};
 ghost use Rattle.cosine.specs.Kernels.{tabled};
-ghost use Rattle.recording.specs.Analysis.{coefficients};
+ghost use Rattle.recording.specs.Analysis.{offered, coefficients};
 ghost use Rattle.recording.specs.Recordings.{analysis, synthesis};
 
 // How a block is analysed. The short route is document 01's term for the one in thirds.
@@ -17,7 +17,7 @@ pub enum Route {
 
 // A valid block's coefficients, by a route.
 pub fn analyse_block(route: Route, n: usize, x: &[i16], out: &mut [i32])
-    requires { ⌜ T (tabled n) × (length (now x) ≡ n) × (length (now out) ≡ n / 2) ⌝ }
+    requires { ⌜ T (offered route n) × (length (now x) ≡ n) × (length (now out) ≡ n / 2) ⌝ }
     ensures { λ _. ⌜ now (out .exit) ≡ coefficients route n (now (x .entry)) ⌝ }
 {
     match route {
@@ -28,7 +28,7 @@ pub fn analyse_block(route: Route, n: usize, x: &[i16], out: &mut [i32])
 
 // The coefficients of a recording, block after block: block b covers hops b and b + 1.
 pub fn analyse(route: Route, n: usize, blocks: usize, x: &[i16], out: &mut [i32])
-    requires { ⌜ T (tabled n) × (blocks ≤ 4096) × (length (now x) ≡ (blocks + 1) * (n / 2)) × (length (now out) ≡ blocks * (n / 2)) ⌝ }
+    requires { ⌜ T (offered route n) × (blocks ≤ 4096) × (length (now x) ≡ (blocks + 1) * (n / 2)) × (length (now out) ≡ blocks * (n / 2)) ⌝ }
     ensures { λ _. ⌜ now (out .exit) ≡ analysis route n blocks (now (x .entry)) ⌝ }
 {
     let m = n / 2;

@@ -1,4 +1,5 @@
 pub mod ShortRoute
+pub mod OfferLaws
 pub mod ShortSizeLaws
 pub mod TripleLaws
 pub mod ShortLaws

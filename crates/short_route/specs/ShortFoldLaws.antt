@@ -8,11 +8,12 @@ use lib.IntN.{ℤ, natAbs, _+ℤ_, _-ℤ_, _*ℤ_, *ℤ-comm}
 use Rattle.arithmetic.specs.Sums.{sum}
 use Rattle.arithmetic.specs.Lists.{table}
 use Rattle.arithmetic.specs.SumLaws.{sum-ext}
-use Rattle.cosine.specs.Kernels.{tabled, K, F, L, turned}
+use Rattle.cosine.specs.Kernels.{K, F, L, turned}
 use Rattle.cosine.specs.LengthLaws.{third-part}
 use Rattle.cosine.specs.SplitLaws.{L-third}
 use Rattle.transform.specs.Analysis.{S}
-use Rattle.short_route.specs.ShortRoute.{a, b, c, rB, rC, A, B, G}
+use Rattle.short_route.specs.ShortRoute.{offered, a, b, c, rB, rC, A, B, G}
+use Rattle.short_route.specs.OfferLaws.{offered-tabled}
 use Rattle.transform.specs.FoldLaws.{folded, S-folded, folded-size}
 use Rattle.short_route.specs.ShortSizeLaws.{middle-size, rB-size, turned-size}
 
@@ -36,18 +37,18 @@ sumsG N y = table (N / 6) (G N y)
 pub half-third : (N : ℕ) → N / 3 / 2 ≡ N / 6
 half-third N = omega arith
 
-module _ (N : ℕ) (t : T (tabled N)) where
+module _ (N : ℕ) (o : T (offered N)) where
   -- a sum over the short kernel is the direct sum of a third of the length
   pub third-sum : (w : ℕ → ℤ) (k : ℕ) → sum (N / 3) (λ n. L N n k *ℤ w n) ≡ S (N / 3) w k
   unfolding S
   third-sum w k =
       sum-ext (N / 3) (λ n. L N n k *ℤ w n) (λ n. w n *ℤ K (N / 3) n k)
-      (λ n p. rw (L-third N t n k) (*ℤ-comm (K (N / 3) n k) (w n)))
+      (λ n p. rw (L-third N (offered-tabled N o) n k) (*ℤ-comm (K (N / 3) n k) (w n)))
 
   third-folded : (w : ℕ → ℤ) (k : ℕ) → sum (N / 3) (λ n. L N n k *ℤ w n) ≡ sum (N / 6) (λ j. folded (N / 3) w j *ℤ F (N / 3) j k)
   third-folded w k =
       third-sum w k
-      ∙ S-folded (N / 3) (third-part N t) w k
+      ∙ S-folded (N / 3) (third-part N (offered-tabled N o)) w k
       ∙ ap (λ (m : ℕ). sum m (λ j. folded (N / 3) w j *ℤ F (N / 3) j k)) (half-third N)
 
   module _ (y : ℕ → ℤ) where
@@ -66,10 +67,10 @@ module _ (N : ℕ) (t : T (tabled N)) where
     -- the sizes of what is folded
     module _ (y≤ : (n : ℕ) → n < N → natAbs (y n) ≤ 2 ^ 23) (j : ℕ) (p : j < N / 6) where
       pub folded-middle : natAbs (folded (N / 3) (middle N y) j) ≤ 6 * 2 ^ 23
-      folded-middle = folded-size (N / 3) (third-part N t) (3 * 2 ^ 23) (middle N y) (λ n q. middle-size N y y≤ n q) j (rw (half-third N) p)
+      folded-middle = folded-size (N / 3) (third-part N (offered-tabled N o)) (3 * 2 ^ 23) (middle N y) (λ n q. middle-size N y y≤ n q) j (rw (half-third N) p)
 
       pub folded-rB : natAbs (folded (N / 3) (rB N y) j) ≤ 2 ^ 27
-      folded-rB = folded-size (N / 3) (third-part N t) (2 ^ 26) (rB N y) (λ n q. rB-size N y y≤ n q) j (rw (half-third N) p)
+      folded-rB = folded-size (N / 3) (third-part N (offered-tabled N o)) (2 ^ 26) (rB N y) (λ n q. rB-size N y y≤ n q) j (rw (half-third N) p)
 
       pub folded-rC : natAbs (folded (N / 3) (turnedC N y) j) ≤ 2 ^ 27
-      folded-rC = folded-size (N / 3) (third-part N t) (2 ^ 26) (turnedC N y) (λ n q. turned-size N y y≤ n q) j (rw (half-third N) p)
+      folded-rC = folded-size (N / 3) (third-part N (offered-tabled N o)) (2 ^ 26) (turnedC N y) (λ n q. turned-size N y y≤ n q) j (rw (half-third N) p)

@@ -14,12 +14,13 @@ use Rattle.arithmetic.specs.OrderLaws.{bounds, posbounds, abs-neg}
 use Rattle.arithmetic.specs.RoundingLaws.{rnd-near}
 use Rattle.arithmetic.specs.SumLaws.{sum-ext, sum-add, sum-sub, sum-neg, sum-scale, sum-split, sum-rev, sum-abs}
 use Rattle.cosine.specs.Cosine.{quarter}
-use Rattle.cosine.specs.Kernels.{tabled, K, L, eB, fB, eC, fC, turned}
+use Rattle.cosine.specs.Kernels.{K, L, eB, fB, eC, fC, turned}
 use Rattle.cosine.specs.LengthLaws.{length-of}
 use Rattle.cosine.specs.KernelLaws.{L-size}
 use Rattle.cosine.specs.SplitLaws.{K-third-a, K-third-b, K-third-c, Split-at, split-plus, split-minus, L′, L′-size, turned-mul}
 use Rattle.transform.specs.Analysis.{S, X}
-use Rattle.short_route.specs.ShortRoute.{a, b, c, e, f, rB, rC, A, B, G, D, shortX, units}
+use Rattle.short_route.specs.ShortRoute.{offered, a, b, c, e, f, rB, rC, A, B, G, D, shortX, units}
+use Rattle.short_route.specs.OfferLaws.{offered-tabled}
 use Rattle.transform.specs.SizeLaws.{X-size}
 use Rattle.short_route.specs.ShortSizeLaws.{a-size, b-size, c-size}
 use Rattle.short_route.specs.TripleLaws.{made, off≤}
@@ -56,9 +57,9 @@ module _ (N : ℕ) (y : ℕ → ℤ) (k : ℕ) where
       let r : (3 * k + 2) % 3 ≡ 2 = omega arith in
       rw (q, r)
 
-module _ (N : ℕ) (t : T (tabled N)) where
+module _ (N : ℕ) (o : T (offered N)) where
   thirds : N / 3 + N / 3 + N / 3 ≡ N
-  thirds = omega (arith, length-of N t .twelve)
+  thirds = omega (arith, length-of N (offered-tabled N o) .twelve)
 
   place-a : (n : ℕ) → N / 3 - suc n ≡ N / 3 - 1 - n
   place-a n = omega arith
@@ -88,7 +89,7 @@ module _ (N : ℕ) (t : T (tabled N)) where
     unfolding A
     A-is k =
         sum-ext (N / 3) (λ n. L N n k *ℤ (a N y n -ℤ b N y n +ℤ c N y n)) (three (3 * k + 1))
-        (λ n p. rw (K-third-a N t n k p, K-third-b N t n k p, K-third-c N t n k p) (alg (L N n k) (a N y n) (b N y n) (c N y n)))
+        (λ n p. rw (K-third-a N (offered-tabled N o) n k p, K-third-b N (offered-tabled N o) n k p, K-third-c N (offered-tabled N o) n k p) (alg (L N n k) (a N y n) (b N y n) (c N y n)))
         ∙ sym (S-thirds (3 * k + 1))
       where
         alg : (l a b c : ℤ) → l *ℤ (a -ℤ b +ℤ c) ≡ a *ℤ l +ℤ b *ℤ negℤ l +ℤ c *ℤ l
@@ -136,15 +137,15 @@ module _ (N : ℕ) (t : T (tabled N)) where
             ∙ ap negℤ (sym D-is)
 
         plus-near : k < N / 6 → natAbs (B N y k +ℤ D N y k -ℤ pos 2 *ℤ S N y (3 * k)) ≤ N / 3 * (17 * 2 ^ 23)
-        plus-near q = rw D-is (outer k (3 * k) (L′ N k) (L′-size N k) (λ n p. split-plus N t n k p q))
+        plus-near q = rw D-is (outer k (3 * k) (L′ N k) (L′-size N k) (λ n p. split-plus N (offered-tabled N o) n k p q))
 
         minus-near : k < N / 6 → natAbs (B N y k -ℤ D N y k -ℤ pos 2 *ℤ S N y (3 * k + 2)) ≤ N / 3 * (17 * 2 ^ 23)
-        minus-near q = rw D-other at (outer k (3 * k + 2) (λ n. negℤ (L′ N k n)) (λ n. rw (abs-neg (L′ N k n)) (L′-size N k n)) (λ n p. split-minus N t n k p q))
+        minus-near q = rw D-other at (outer k (3 * k + 2) (λ n. negℤ (L′ N k n)) (λ n. rw (abs-neg (L′ N k n)) (L′-size N k n)) (λ n p. split-minus N (offered-tabled N o) n k p q))
 
       -- ---- rounded, which adds less than 1
       rounded : (i : ℕ) (E : ℤ) → natAbs (E -ℤ pos 2 *ℤ S N y i) ≤ N / 3 * (17 * 2 ^ 23) → natAbs (rnd E (2 ^ 29) -ℤ X N y i) ≤ 7
       unfolding X
-      rounded i E h = go (N / 3) (S N y i) E (X N y i) (rnd E (2 ^ 29)) (omega (arith, length-of N t .most)) h (rnd-near (S N y i) {b = 2 ^ 28} (lit< tt)) (rnd-near E {b = 2 ^ 29} (lit< tt))
+      rounded i E h = go (N / 3) (S N y i) E (X N y i) (rnd E (2 ^ 29)) (omega (arith, length-of N (offered-tabled N o) .most)) h (rnd-near (S N y i) {b = 2 ^ 28} (lit< tt)) (rnd-near E {b = 2 ^ 29} (lit< tt))
         where
           go : (t : ℕ) (S E X Z : ℤ) → t ≤ quarter / 3 → natAbs (E -ℤ pos 2 *ℤ S) ≤ t * (17 * 2 ^ 23) → natAbs (pos (2 ^ 28) *ℤ X -ℤ S) ≤ 2 ^ 27 → natAbs (pos (2 ^ 29) *ℤ Z -ℤ E) ≤ 2 ^ 28 →
               natAbs (Z -ℤ X) ≤ 7
@@ -167,7 +168,7 @@ module _ (N : ℕ) (t : T (tabled N)) where
       within-7 i p = go (i % 3) refl (mod-lt i {m = 3} (lit< tt))
         where
           q : i / 3 < N / 6
-          q = omega (arith, length-of N t .twelve)
+          q = omega (arith, length-of N (offered-tabled N o) .twelve)
 
           go : (r : ℕ) → i % 3 ≡ r → r < 3 → natAbs (shortX N y i -ℤ X N y i) ≤ 7
           go zero e r = let f : i ≡ 3 * (i / 3) = omega arith in rw f (first-near (i / 3) q)
@@ -181,7 +182,7 @@ module _ (N : ℕ) (t : T (tabled N)) where
 
       pub short-size : (i : ℕ) → i < N / 2 → natAbs (shortX N y i) ≤ 2 ^ 29
       short-size i p =
-          let l = length-of N t .most in
+          let l = length-of N (offered-tabled N o) .most in
           go (shortX N y i) (X N y i) (within-7 i p) (omega (arith, X-size N y y≤ i))
         where
           go : (z x : ℤ) → natAbs (z -ℤ x) ≤ 7 → natAbs x ≤ quarter * 2 ^ 21 → natAbs z ≤ 2 ^ 29

@@ -1,6 +1,6 @@
 -- The short route: definitions. Document 01, 'Short route', in its names. N is the length of the part that is split, y its inputs: the windowed block.
 use mathlib.Core.Path.{_≡_}
-use mathlib.Core.Bool.{cond}
+use mathlib.Core.Bool.{Bool, cond}
 use mathlib.Core.List.{List}
 use Prim.Native.Nat.{ℕ, _-_, _*_, _/_, _%_, _^_}
 use lib.Dec.{eqb}
@@ -8,7 +8,11 @@ use lib.IntN.{ℤ, pos, _+ℤ_, _-ℤ_, _*ℤ_}
 use Rattle.arithmetic.specs.Rounding.{rnd}
 use Rattle.arithmetic.specs.Sums.{sum}
 use Rattle.arithmetic.specs.Lists.{table}
-use Rattle.cosine.specs.Kernels.{L, eB, fB, eC, fC, turned}
+use Rattle.cosine.specs.Kernels.{tabled, L, eB, fB, eC, fC, turned}
+
+-- the lengths at which the short route is offered: every tabled one
+unfoldable pub offered : ℕ → Bool
+offered N = tabled N
 
 -- for n from 0 to N/3 - 1
 unfoldable pub a : ℕ → (ℕ → ℤ) → ℕ → ℤ

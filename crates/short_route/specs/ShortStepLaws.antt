@@ -13,10 +13,11 @@ use Rattle.arithmetic.specs.Lists.{at, table, Small}
 use Rattle.arithmetic.specs.ListLaws.{length-table, getD-table, table-ext}
 use Rattle.arithmetic.specs.SumLaws.{sum-ext}
 use Rattle.arithmetic.specs.TestLaws.{cond-no}
-use Rattle.cosine.specs.Kernels.{tabled, rising, falling, L, turned}
+use Rattle.cosine.specs.Kernels.{rising, falling, L, turned}
 use Rattle.cosine.specs.LengthLaws.{Part, length-of}
 use Rattle.transform.specs.Analysis.{y, S}
-use Rattle.short_route.specs.ShortRoute.{a, b, c, e, f, rB, rC, A, B, G, D, Unrounded, shortX, short}
+use Rattle.short_route.specs.ShortRoute.{offered, a, b, c, e, f, rB, rC, A, B, G, D, Unrounded, shortX, short}
+use Rattle.short_route.specs.OfferLaws.{offered-tabled}
 use Rattle.transform.specs.FoldLaws.{folded}
 use Rattle.short_route.specs.ShortSizeLaws.{A-size, plus-size, minus-size}
 use Rattle.short_route.specs.ShortFoldLaws.{middle, third-sum}
@@ -45,14 +46,14 @@ sums-step P len u m rows z t e r f h =
     ∙ table-ext (P / 2) (λ k. sum (P / 2) (λ j. at (table (P / 2) (folded P u)) j *ℤ at (rowList P) (k * (P / 2) + j))) (S P u) (λ k p. S-rows P len u k p)
 
 -- ---- the split of a part of N inputs y
-module _ (N : ℕ) (t : T (tabled N)) (y : ℕ → ℤ) where
+module _ (N : ℕ) (o : T (offered N)) (y : ℕ → ℤ) where
   -- the sums of a third, from its inputs as a list
   pub third-step : (v : ℕ → ℤ) (m p : ℕ) (w s : List ℤ) → m ≡ N / 6 → p ≡ N / 3 → w ≡ table (N / 3) v → s ≡ table m (S p (at w)) →
       s ≡ table (N / 6) (λ k. sum (N / 3) (λ n. L N n k *ℤ v n))
   third-step v m p w s e q f h =
       rw (e, q, f) at h
       ∙ table-ext (N / 6) (S (N / 3) (at (table (N / 3) v))) (λ k. sum (N / 3) (λ n. L N n k *ℤ v n))
-      (λ k _. S-ext (N / 3) (at (table (N / 3) v)) v (λ n l. getD-table v (pos 0) (N / 3) n l) k ∙ sym (third-sum N t v k))
+      (λ k _. S-ext (N / 3) (at (table (N / 3) v)) v (λ n l. getD-table v (pos 0) (N / 3) n l) k ∙ sym (third-sum N o v k))
 
   -- B(k) and D(k), read from the lists of B and G
   module _ (b g : List ℤ) (m : ℕ) (is : m ≡ N / 6) (b-is : b ≡ table (N / 6) (B N y)) (g-is : g ≡ table (N / 6) (G N y)) where
@@ -117,7 +118,7 @@ interleaved-is N y middle plus minus u i p =
     )
 
 -- ---- what the short route depends on: N entries of the windowed block
-module _ (N : ℕ) (t : T (tabled N)) (u v : ℕ → ℤ) (same : (n : ℕ) → n < N → u n ≡ v n) where
+module _ (N : ℕ) (o : T (offered N)) (u v : ℕ → ℤ) (same : (n : ℕ) → n < N → u n ≡ v n) where
   module _ (n : ℕ) (p : n < N / 3) where
     a-ext : a N u n ≡ a N v n
     unfolding a
@@ -165,7 +166,7 @@ module _ (N : ℕ) (t : T (tabled N)) (u v : ℕ → ℤ) (same : (n : ℕ) → 
 
 -- ---- what the code has at the end
 -- the lists of the split, their lengths and sizes
-module _ (N : ℕ) (t : T (tabled N)) (y : ℕ → ℤ) (y≤ : (n : ℕ) → n < N → natAbs (y n) ≤ 2 ^ 23) (middle plus minus : List ℤ) (u : Unrounded N y middle plus minus) where
+module _ (N : ℕ) (o : T (offered N)) (y : ℕ → ℤ) (y≤ : (n : ℕ) → n < N → natAbs (y n) ≤ 2 ^ 23) (middle plus minus : List ℤ) (u : Unrounded N y middle plus minus) where
   pub middle-length : length middle ≡ N / 6
   middle-length = ap length (u .middle-is) ∙ length-table (A N y) (N / 6)
 
@@ -176,26 +177,26 @@ module _ (N : ℕ) (t : T (tabled N)) (y : ℕ → ℤ) (y≤ : (n : ℕ) → n 
   minus-length = ap length (u .minus-is) ∙ length-table (λ k. B N y k -ℤ D N y k) (N / 6)
 
   pub middle-small : Small middle (2 ^ 58)
-  middle-small = rw (u .middle-is) (table-small (N / 6) (2 ^ 58) (A N y) (λ k p. omega (arith, A-size N y y≤ k, length-of N t .most)))
+  middle-small = rw (u .middle-is) (table-small (N / 6) (2 ^ 58) (A N y) (λ k p. omega (arith, A-size N y y≤ k, length-of N (offered-tabled N o) .most)))
 
   pub plus-small : Small plus (2 ^ 58)
-  plus-small = rw (u .plus-is) (table-small (N / 6) (2 ^ 58) (λ k. B N y k +ℤ D N y k) (λ k p. omega (arith, plus-size N y y≤ k, length-of N t .most)))
+  plus-small = rw (u .plus-is) (table-small (N / 6) (2 ^ 58) (λ k. B N y k +ℤ D N y k) (λ k p. omega (arith, plus-size N y y≤ k, length-of N (offered-tabled N o) .most)))
 
   pub minus-small : Small minus (2 ^ 58)
-  minus-small = rw (u .minus-is) (table-small (N / 6) (2 ^ 58) (λ k. B N y k -ℤ D N y k) (λ k p. omega (arith, minus-size N y y≤ k, length-of N t .most)))
+  minus-small = rw (u .minus-is) (table-small (N / 6) (2 ^ 58) (λ k. B N y k -ℤ D N y k) (λ k p. omega (arith, minus-size N y y≤ k, length-of N (offered-tabled N o) .most)))
 
-pub short-step : (N : ℕ) → T (tabled N) → (x : List ℤ) (n k m : ℕ) (left right block middle plus minus out : List ℤ) →
+pub short-step : (N : ℕ) → T (offered N) → (x : List ℤ) (n k m : ℕ) (left right block middle plus minus out : List ℤ) →
     n ≡ N → k ≡ N → m ≡ N / 6 → left ≡ riseList N → right ≡ fallList N → block ≡ table n (y n (at left) (at right) x) → Unrounded k (at block) middle plus minus →
     out ≡ table (3 * m) (interleaved middle plus minus) → out ≡ short N (y N (rising N) (falling N) x)
 unfolding short
-short-step N t x n k m left right block middle plus minus out e j q l r w u h =
-    let half : 3 * m ≡ N / 2 = omega (arith, length-of N t .twelve) in
+short-step N o x n k m left right block middle plus minus out e j q l r w u h =
+    let half : 3 * m ≡ N / 2 = omega (arith, length-of N (offered-tabled N o) .twelve) in
     let lent = y N (at (riseList N)) (at (fallList N)) x in
     let is : block ≡ table N lent = rw (e, l, r) at w in
     let v : Unrounded N (at block) middle plus minus = rw j at u in
     rw half at h
-    ∙ table-ext (N / 2) (interleaved middle plus minus) (shortX N (at block)) (λ i p. interleaved-is N (at block) middle plus minus v i (omega (arith, length-of N t .twelve)))
-    ∙ short-ext N t (at block) (y N (rising N) (falling N) x) (λ n p. rw is (getD-table lent (pos 0) N n p) ∙ y-lent N t x n p)
+    ∙ table-ext (N / 2) (interleaved middle plus minus) (shortX N (at block)) (λ i p. interleaved-is N (at block) middle plus minus v i (omega (arith, length-of N (offered-tabled N o) .twelve)))
+    ∙ short-ext N o (at block) (y N (rising N) (falling N) x) (λ n p. rw is (getD-table lent (pos 0) N n p) ∙ y-lent N (offered-tabled N o) x n p)
 
 -- the same at a length under another name
 pub short-at : (n N : ℕ) (x out : List ℤ) → n ≡ N → out ≡ short N (y N (rising N) (falling N) x) → out ≡ short n (y n (rising n) (falling n) x)

@@ -1,4 +1,4 @@
-// The short route's analysis of one block of a tabled length, valid by its requires. Definitions are in specs/.
+// The short route's analysis of one block of a length at which it is offered, valid by its requires. Definitions are in specs/.
 // No function here is a public call: `filter_bank` calls `analyse` after every check.
 mod block;
 mod split;
@@ -8,10 +8,10 @@ ghost use mathlib.Core.Path.{_≡_};
 ghost use Prim.Native.Nat.{_/_};
 ghost use lib.Dec.{T};
 ghost use lib.ListN.{length};
-ghost use Rattle.cosine.specs.Kernels.{tabled, rising, falling};
+ghost use Rattle.cosine.specs.Kernels.{rising, falling};
 ghost use Rattle.transform.specs.Analysis.{y};
 ghost use Rattle.transform.specs.RowLaws.{riseList, fallList};
-ghost use Rattle.short_route.specs.ShortRoute.{short};
+ghost use Rattle.short_route.specs.ShortRoute.{offered, short};
 
 // The coefficients of a block. The length's window is lent, and room for the windowed block and for the sums of its split.
 fn short_block(
@@ -25,7 +25,7 @@ fn short_block(
     minus: &mut [i64],
     out: &mut [i32],
 )
-    requires { ⌜ T (tabled n) × (now left ≡ riseList n) × (now right ≡ fallList n) × (length (now x) ≡ n) × (length (now block) ≡ n) × (length (now a) ≡ n / 6) × (length (now plus) ≡ n / 6) × (length (now minus) ≡ n / 6) × (length (now out) ≡ n / 2) ⌝ }
+    requires { ⌜ T (offered n) × (now left ≡ riseList n) × (now right ≡ fallList n) × (length (now x) ≡ n) × (length (now block) ≡ n) × (length (now a) ≡ n / 6) × (length (now plus) ≡ n / 6) × (length (now minus) ≡ n / 6) × (length (now out) ≡ n / 2) ⌝ }
     ensures { λ _. ⌜ now (out .exit) ≡ short n (y n (rising n) (falling n) (now (x .entry))) ⌝ }
 {
     block::windowed_block(left, right, x, block);
@@ -119,7 +119,7 @@ fn short_72(x: &[i16], out: &mut [i32])
 
 // The coefficients of a block, for `filter_bank`: each length lends its own tables.
 pub fn analyse(n: usize, x: &[i16], out: &mut [i32])
-    requires { ⌜ T (tabled n) × (length (now x) ≡ n) × (length (now out) ≡ n / 2) ⌝ }
+    requires { ⌜ T (offered n) × (length (now x) ≡ n) × (length (now out) ≡ n / 2) ⌝ }
     ensures { λ _. ⌜ now (out .exit) ≡ short n (y n (rising n) (falling n) (now (x .entry))) ⌝ }
 {
     if n == 12 {

@@ -6,10 +6,10 @@ ghost use lib.Dec.{T};
 ghost use lib.ListN.{length};
 ghost use lib.IntN.{natAbs, _+ℤ_, _-ℤ_};
 ghost use Rattle.arithmetic.specs.Lists.{at, table, Small};
-ghost use Rattle.cosine.specs.Kernels.{tabled, eB, fB, eC, fC};
+ghost use Rattle.cosine.specs.Kernels.{eB, fB, eC, fC};
 ghost use Rattle.cosine.specs.LengthLaws.{Part};
 ghost use Rattle.transform.specs.Analysis.{S};
-ghost use Rattle.short_route.specs.ShortRoute.{a, b, c, e, f, rB, rC, Unrounded};
+ghost use Rattle.short_route.specs.ShortRoute.{offered, a, b, c, e, f, rB, rC, Unrounded};
 ghost use Rattle.transform.specs.FoldLaws.{folded};
 ghost use Rattle.short_route.specs.ShortFoldLaws.{middle, turnedC, sumsA, sumsB, sumsG};
 ghost use Rattle.transform.specs.RowLaws.{rowList};
@@ -152,7 +152,7 @@ fn part_sums(w: &[i32], rows: &[i32], z: &mut [i32], t: &mut [i64])
 
 // A(k), from a - b + c.
 fn a_sums(y: &[i32], rows: &[i32], w: &mut [i32], z: &mut [i32], a: &mut [i64])
-    requires { ⌜ T (tabled (length (now y))) × Small (now y) (2 ^ 23) × (now rows ≡ rowList (length (now y) / 3)) × (length (now w) ≡ length (now y) / 3) × (length (now z) ≡ length (now y) / 6) × (length (now a) ≡ length (now y) / 6) ⌝ }
+    requires { ⌜ T (offered (length (now y))) × Small (now y) (2 ^ 23) × (now rows ≡ rowList (length (now y) / 3)) × (length (now w) ≡ length (now y) / 3) × (length (now z) ≡ length (now y) / 6) × (length (now a) ≡ length (now y) / 6) ⌝ }
     ensures { λ _. ⌜ now (a .exit) ≡ sumsA (length (now (y .entry))) (at (now (y .entry))) ⌝ }
 {
     fill_middle(y, w);
@@ -169,7 +169,7 @@ fn b_sums(
     z: &mut [i32],
     b: &mut [i64],
 )
-    requires { ⌜ T (tabled (length (now y))) × Small (now y) (2 ^ 23) × (now rows ≡ rowList (length (now y) / 3)) × (length (now w) ≡ length (now y) / 3) × (length (now z) ≡ length (now y) / 6) × (length (now b) ≡ length (now y) / 6) × (now eb ≡ rotation eB (length (now y))) × (now fb ≡ rotation fB (length (now y))) ⌝ }
+    requires { ⌜ T (offered (length (now y))) × Small (now y) (2 ^ 23) × (now rows ≡ rowList (length (now y) / 3)) × (length (now w) ≡ length (now y) / 3) × (length (now z) ≡ length (now y) / 6) × (length (now b) ≡ length (now y) / 6) × (now eb ≡ rotation eB (length (now y))) × (now fb ≡ rotation fB (length (now y))) ⌝ }
     ensures { λ _. ⌜ now (b .exit) ≡ sumsB (length (now (y .entry))) (at (now (y .entry))) ⌝ }
 {
     fill_rb(y, eb, fb, w);
@@ -186,7 +186,7 @@ fn g_sums(
     z: &mut [i32],
     g: &mut [i64],
 )
-    requires { ⌜ T (tabled (length (now y))) × Small (now y) (2 ^ 23) × (now rows ≡ rowList (length (now y) / 3)) × (length (now w) ≡ length (now y) / 3) × (length (now z) ≡ length (now y) / 6) × (length (now g) ≡ length (now y) / 6) × (now ec ≡ rotation eC (length (now y))) × (now fc ≡ rotation fC (length (now y))) ⌝ }
+    requires { ⌜ T (offered (length (now y))) × Small (now y) (2 ^ 23) × (now rows ≡ rowList (length (now y) / 3)) × (length (now w) ≡ length (now y) / 3) × (length (now z) ≡ length (now y) / 6) × (length (now g) ≡ length (now y) / 6) × (now ec ≡ rotation eC (length (now y))) × (now fc ≡ rotation fC (length (now y))) ⌝ }
     ensures { λ _. ⌜ now (g .exit) ≡ sumsG (length (now (y .entry))) (at (now (y .entry))) ⌝ }
 {
     fill_rc(y, ec, fc, w);
@@ -222,7 +222,7 @@ fn split_part(
     plus: &mut [i64],
     minus: &mut [i64],
 )
-    requires { ⌜ T (tabled (length (now y))) × Small (now y) (2 ^ 23) ⌝ }
+    requires { ⌜ T (offered (length (now y))) × Small (now y) (2 ^ 23) ⌝ }
     requires { ⌜ (now eb ≡ rotation eB (length (now y))) × (now fb ≡ rotation fB (length (now y))) × (now ec ≡ rotation eC (length (now y))) × (now fc ≡ rotation fC (length (now y))) × (now rows ≡ rowList (length (now y) / 3)) ⌝ }
     requires { ⌜ (length (now w) ≡ length (now y) / 3) × (length (now z) ≡ length (now y) / 6) × (length (now b) ≡ length (now y) / 6) × (length (now g) ≡ length (now y) / 6) ⌝ }
     requires { ⌜ (length (now a) ≡ length (now y) / 6) × (length (now plus) ≡ length (now y) / 6) × (length (now minus) ≡ length (now y) / 6) ⌝ }
@@ -336,7 +336,7 @@ fn split_72(y: &[i32], a: &mut [i64], plus: &mut [i64], minus: &mut [i64])
 
 // The split of y: each length lends its own tables.
 pub fn split(y: &[i32], a: &mut [i64], plus: &mut [i64], minus: &mut [i64])
-    requires { ⌜ T (tabled (length (now y))) × Small (now y) (2 ^ 23) × (length (now a) ≡ length (now y) / 6) × (length (now plus) ≡ length (now y) / 6) × (length (now minus) ≡ length (now y) / 6) ⌝ }
+    requires { ⌜ T (offered (length (now y))) × Small (now y) (2 ^ 23) × (length (now a) ≡ length (now y) / 6) × (length (now plus) ≡ length (now y) / 6) × (length (now minus) ≡ length (now y) / 6) ⌝ }
     ensures { λ _. ⌜ Unrounded (length (now (y .entry))) (at (now (y .entry))) (now (a .exit)) (now (plus .exit)) (now (minus .exit)) ⌝ }
 {
     let n = y.len();

@@ -2,8 +2,9 @@
 use mathlib.Core.Path.{_≡_, refl, sym, _∙_}
 use mathlib.Core.Bool.{true}
 use borrow.Author.Tests.{not-true, not-false}
-use Rattle.filter_bank.specs.Analysis.{offered}
-use Rattle.filter_bank.specs.AnalysisLaws.{offered-tabled, analyse-1, analyse-2-in, analyse-2-out, analyse-0, analyse-refused, analyse-taken}
+use Rattle.recording.specs.Analysis.{offered}
+use Rattle.filter_bank.specs.StreamLaws.{is-T}
+use Rattle.filter_bank.specs.AnalysisLaws.{analyse-1, analyse-2-in, analyse-2-out, analyse-0, analyse-refused, analyse-taken}
 use borrow.Author.Needs.{needs}
 use Rattle.filter_bank.proofs.analyse.Statement.{statement}
 use Rattle.filter_bank.proofs.analyse.Tie as tie
@@ -36,7 +37,7 @@ analyse-block-requires : tie.Need-analyse-block-requires
 analyse-block-requires c κs =
     let e = c .before in
     let a = e .before .before .before .before .args in
-    (offered-tabled (a .route) (a .n) (good (e .before .before)), e .before .if2 .left, e .if3 .left)
+    (is-T (good (e .before .before)), e .before .if2 .left, e .if3 .left)
 
 same-length : tie.Need-same-length
 same-length c = search needs

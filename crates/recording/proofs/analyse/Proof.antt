@@ -10,7 +10,7 @@ use Rattle.recording.specs.declared.Route.{Route}
 use Rattle.recording.specs.Analysis.{coefficients, block}
 use Rattle.recording.specs.Recordings.{joined, analysis}
 use Rattle.recording.specs.JoinLaws.{Joined, joined-none, joined-more, joined-all}
-use Rattle.recording.specs.RecordingLaws.{coefficients-length, Lies, lies, block-is}
+use Rattle.recording.specs.RecordingLaws.{offered-tabled, coefficients-length, Lies, lies, block-is}
 use Rattle.recording.proofs.analyse.Statement.{statement}
 use Rattle.recording.proofs.analyse.Tie as tie
 
@@ -33,7 +33,7 @@ placed : (c : tie.In-loop Inv-loop μ-loop) →
 placed c =
     let a = c .before .before .args in
     let q = c .before .before .pre in
-    lies (a .n) (q .0) (a .blocks) (length (a .x .now)) (length (a .out .now)) (c .before .loop .b) (q .1) (q .2) (q .3) (omega arith)
+    lies (a .n) (offered-tabled (a .route) (a .n) (q .0)) (a .blocks) (length (a .x .now)) (length (a .out .now)) (c .before .loop .b) (q .1) (q .2) (q .3) (omega arith)
 
 mul-at : tie.Need-mul-at Inv-loop μ-loop
 mul-at c = omega (arith, placed c)

@@ -1,7 +1,7 @@
 -- `analyse_block` meets its contract: each route by its own crate.
 use mathlib.Core.Path.{_≡_}
 use Rattle.recording.specs.declared.Route.the-variants.{Direct, Short}
-use Rattle.recording.specs.Analysis.{spectrum, coefficients}
+use Rattle.recording.specs.Analysis.{offered, spectrum, coefficients}
 use borrow.Author.Needs.{needs}
 use Rattle.recording.proofs.analyse_block.Statement.{statement}
 use Rattle.recording.proofs.analyse_block.Tie as tie
@@ -10,13 +10,23 @@ enum-told : tie.Need-enum-told
 enum-told c = search needs
 
 analyse-direct-requires : tie.Need-analyse-direct-requires
-analyse-direct-requires c κs = search needs
+unfolding offered
+analyse-direct-requires c κs =
+    let a = c .before .before .before .args in
+    let q = c .before .before .before .pre in
+    let e : a .route ≡ Direct = c .before .enum-told .given .1 in
+    (rw e at (q .0), q .1, q .2)
 
 enum-told-2 : tie.Need-enum-told-2
 enum-told-2 c = search needs
 
 analyse-requires : tie.Need-analyse-requires
-analyse-requires c κs = search needs
+unfolding offered
+analyse-requires c κs =
+    let a = c .before .before .before .args in
+    let q = c .before .before .before .pre in
+    let e : a .route ≡ Short = c .before .enum-told2 .given .1 in
+    (rw e at (q .0), q .1, q .2)
 
 same-length : tie.Need-same-length
 same-length c = search needs

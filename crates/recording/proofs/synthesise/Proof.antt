@@ -1,16 +1,13 @@
 -- `synthesise` meets its contract. The invariant: the hops before b are written, the rest is as it was, and the stream is the one after b steps.
 use mathlib.Core.Path.{_≡_, refl, sym, ap, ap₂, _∙_}
 use mathlib.Core.List.{List}
-use Prim.Native.Nat.{ℕ, _+_, _-_, _*_, _/_, _^_, _≤_, _<_}
-use native.Mathlib.Numerals.{add-one}
+use Prim.Native.Nat.{ℕ, _+_, _-_, _*_, _/_, _^_, _≤_}
 use native.Mathlib.Omega.{arith}
 use lib.ListN.{length}
 use lib.IntN.{ℤ}
 use Rattle.arithmetic.specs.ListLaws.{part-length, part-small}
-use Rattle.stream.specs.declared.Stream.{Stream}
 use Rattle.stream.specs.Steps.{next, hop}
-use Rattle.stream.specs.NextLaws.{Fine, hop-long}
-use Rattle.stream.specs.StepLaws.{Bounded}
+use Rattle.stream.specs.NextLaws.{Fine}
 use Rattle.recording.specs.Recordings.{joined, part, streamAfter, synthesis}
 use Rattle.recording.specs.JoinLaws.{Joined, joined-none, joined-more, joined-all}
 use Rattle.recording.specs.RecordingLaws.{Lies, lies, part-is, hop-length, stream-next, stream-fine}

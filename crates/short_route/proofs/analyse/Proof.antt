@@ -3,6 +3,7 @@ use mathlib.Core.Path.{_≡_, _∙_}
 use native.Mathlib.Omega.{arith}
 use borrow.Author.Needs.{needs}
 use Rattle.cosine.specs.LengthLaws.{last-length}
+use Rattle.short_route.specs.OfferLaws.{offered-tabled}
 use Rattle.short_route.specs.ShortStepLaws.{short-at}
 use Rattle.short_route.proofs.analyse.Statement.{statement}
 use Rattle.short_route.proofs.analyse.Tie as tie
@@ -39,7 +40,7 @@ returns-3 c =
 
 -- what is left is the last length
 last : (c : tie.Else3) → c .before .before .before .args .n ≡ 72
-last c = last-length (c .before .before .before .args .n) (c .before .before .before .pre .0) (c .before .before .if1 .left) (c .before .if2 .left) (c .if3 .left)
+last c = last-length (c .before .before .before .args .n) (offered-tabled (c .before .before .before .args .n) (c .before .before .before .pre .0)) (c .before .before .if1 .left) (c .before .if2 .left) (c .if3 .left)
 
 short-72-requires : tie.Need-short-72-requires
 short-72-requires c κs =

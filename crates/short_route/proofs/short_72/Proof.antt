@@ -5,6 +5,7 @@ use Rattle.cosine.specs.Cosine.{reduced, toHalf, toTurn, continued}
 use Rattle.cosine.specs.Kernels.{tabled, lengths}
 use Rattle.cosine.specs.TableLaws.{numbers}
 use Rattle.cosine.specs.CosineLaws.{tableC}
+use Rattle.short_route.specs.ShortRoute.{offered}
 use Rattle.transform.specs.RowLaws.{riseNumbers, fallNumbers, rise-numbers, fall-numbers}
 use borrow.Author.Needs.{needs}
 use Rattle.short_route.proofs.short_72.Statement.{statement}
@@ -29,7 +30,7 @@ slice-aggregate-short-block-6 : tie.Need-slice-aggregate-short-block-6
 slice-aggregate-short-block-6 c = search needs
 
 short-block-requires : tie.Need-short-block-requires
-unfolding tabled every lengths riseNumbers fallNumbers table tableC continued toTurn toHalf reduced numbers
+unfolding offered tabled every lengths riseNumbers fallNumbers table tableC continued toTurn toHalf reduced numbers
 short-block-requires c κs =
     let q = c .before .before .before .before .before .before .before .pre in
     (tt, rise-numbers 72, fall-numbers 72, q .0, refl, refl, refl, refl, q .1)

@@ -7,9 +7,10 @@ use lib.Dec.{T}
 use lib.ListN.{length}
 use lib.IntN.{ℤ, natAbs}
 use Rattle.arithmetic.specs.Lists.{at}
-use Rattle.cosine.specs.Kernels.{tabled}
 use Rattle.cosine.specs.LengthLaws.{Length, length-of}
 use Rattle.transform.specs.RowLaws.{rise-length, fall-length, rise-small, fall-small}
+use Rattle.short_route.specs.ShortRoute.{offered}
+use Rattle.short_route.specs.OfferLaws.{offered-tabled}
 use Rattle.short_route.specs.ShortStepLaws.{middle-length, plus-length, minus-length, middle-small, plus-small, minus-small, short-step}
 use borrow.Author.Needs.{needs}
 use Rattle.short_route.proofs.short_block.Statement.{statement}
@@ -20,7 +21,7 @@ module _ (c : tie.Start) where
   n = c .args .n
 
   len : Length n
-  len = length-of n (c .pre .0)
+  len = length-of n (offered-tabled n (c .pre .0))
 
 windowed-block-requires : tie.Need-windowed-block-requires
 windowed-block-requires c κs =
@@ -49,8 +50,8 @@ module _ (c : tie.After-windowed-block) where
   block-small : (i : ℕ) → i < length block → natAbs (at block i) ≤ 2 ^ 23
   block-small i p = c .windowed-block .ensures .1 .small i p
 
-  block-tabled : T (tabled (length block))
-  block-tabled = subst (λ (k : ℕ). T (tabled k)) (sym long) (s .pre .0)
+  block-offered : T (offered (length block))
+  block-offered = subst (λ (k : ℕ). T (offered k)) (sym long) (s .pre .0)
 
   sixth : n s / 6 ≡ length block / 6
   sixth = ap (λ (k : ℕ). k / 6) (sym long)
@@ -59,7 +60,7 @@ split-requires : tie.Need-split-requires
 split-requires c κs =
     let f = c .before .before .before .before .before in
     let q = s f .pre in
-    (block-tabled f, f .windowed-block .ensures .1, q .5 ∙ sixth f, q .6 ∙ sixth f, q .7 ∙ sixth f)
+    (block-offered f, f .windowed-block .ensures .1, q .5 ∙ sixth f, q .6 ∙ sixth f, q .7 ∙ sixth f)
 
 -- the sums of the split, as they are written
 module _ (c : tie.After-split) where
@@ -76,14 +77,14 @@ module _ (c : tie.After-split) where
   minus = c .split .last .1 .1 .1 .0
 
   a-long : length a ≡ length (block f) / 6
-  a-long = middle-length (length (block f)) (block-tabled f) (at (block f)) (block-small f) a plus minus (c .split .ensures)
+  a-long = middle-length (length (block f)) (block-offered f) (at (block f)) (block-small f) a plus minus (c .split .ensures)
 
 coefficients-requires : tie.Need-coefficients-requires
 coefficients-requires c κs =
     let j = c .before .before .before .before .before .before .before in
     let w = f j in
     let N = length (block w) in
-    let t = block-tabled w in
+    let t = block-offered w in
     let u = at (block w) in
     let b = block-small w in
     let r = j .split .ensures in (

@@ -6,7 +6,6 @@ use Prim.Native.Nat.{ℕ, _-_, _≤_}
 use native.Mathlib.Omega.{arith}
 use borrow.Author.Tests.{not-true, not-false}
 use lib.Dec.{lit≤}
-use lib.ListN.{length}
 use lib.IntN.{ℤ}
 use mir.Syntax.{w32, w64}
 use mir.Facts.{toZ-ofZ, sfits-widen}

@@ -1,7 +1,8 @@
 -- `is_offered` meets its contract: each route by its own lengths.
 use mathlib.Core.Path.{_≡_}
 use Rattle.recording.specs.declared.Route.the-variants.{Direct, Short}
-use Rattle.filter_bank.specs.Analysis.{offered}
+use Rattle.short_route.specs.ShortRoute as R
+use Rattle.recording.specs.Analysis.{offered}
 use borrow.Author.Needs.{needs}
 use Rattle.filter_bank.proofs.checks.is_offered.Statement.{statement}
 use Rattle.filter_bank.proofs.checks.is_offered.Tie as tie
@@ -25,7 +26,7 @@ returns c =
     rw e (c .is-tabled .ensures)
 
 returns-2 : tie.Need-returns-2
-unfolding offered
+unfolding offered R.offered
 returns-2 c =
     let e : c .before .before .before .args .route ≡ Short = c .before .enum-told2 .given .1 in
     rw e (c .is-tabled2 .ensures)

@@ -1,13 +1,14 @@
 -- `analyse_recording` meets its contract: the causes in their order, each with the number that its law gives.
 use mathlib.Core.Path.{_≡_, refl, sym, _∙_}
 use mathlib.Core.Bool.{true}
-use Prim.Native.Nat.{_+_, _*_, _/_, _≤_}
+use Prim.Native.Nat.{_+_, _≤_}
 use native.Mathlib.Omega.{arith}
 use lib.Dec.{T}
 use borrow.Author.Tests.{not-true, not-false}
 use Rattle.cosine.specs.Kernels.{tabled}
-use Rattle.filter_bank.specs.Analysis.{offered}
-use Rattle.filter_bank.specs.AnalysisLaws.{offered-tabled}
+use Rattle.recording.specs.Analysis.{offered}
+use Rattle.recording.specs.RecordingLaws.{offered-tabled}
+use Rattle.filter_bank.specs.StreamLaws.{is-T}
 use Rattle.filter_bank.specs.Recordings.{counted}
 use Rattle.filter_bank.specs.RecordingLaws.{counted-most, places-few, recorded-1, recorded-2-blocks, recorded-2-in, recorded-2-out, recorded-0, recorded-refused, recorded-taken}
 use borrow.Author.Needs.{needs}
@@ -40,7 +41,7 @@ few : (c : tie.Else2) → counted (c .before .before .before .before .args .bloc
 few c = sym (c .before .is-counted .ensures) ∙ not-false (c .before .is-counted .result) (c .if2 .left)
 
 tab : (c : tie.Else2) → T (tabled (c .before .before .before .before .args .n))
-tab c = let a = c .before .before .before .before .args in offered-tabled (a .route) (a .n) (good (c .before .before))
+tab c = let a = c .before .before .before .before .args in offered-tabled (a .route) (a .n) (is-T (good (c .before .before)))
 
 most : (c : tie.Else2) → c .before .before .before .before .args .blocks ≤ 4096
 most c = counted-most (c .before .before .before .before .args .blocks) (few c)
@@ -74,7 +75,7 @@ analyse-requires : tie.Need-analyse-requires
 analyse-requires c κs =
     let f = c .before in
     let e = f .before .before in
-    (tab e, most e, f .before .if3 .left, f .if4 .left)
+    (is-T (good (e .before .before)), most e, f .before .if3 .left, f .if4 .left)
 
 same-length : tie.Need-same-length
 same-length c = search needs

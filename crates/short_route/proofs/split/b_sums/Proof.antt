@@ -8,6 +8,7 @@ use lib.IntN.{ℤ}
 use Rattle.arithmetic.specs.Lists.{at, table, Small}
 use Rattle.arithmetic.specs.ListLaws.{length-table}
 use Rattle.cosine.specs.LengthLaws.{length-of, third-part}
+use Rattle.short_route.specs.OfferLaws.{offered-tabled}
 use Rattle.short_route.specs.ShortRoute.{rB, B}
 use Rattle.short_route.specs.ShortSizeLaws.{rB-size}
 use Rattle.short_route.specs.ShortStepLaws.{table-small, third-step}
@@ -48,8 +49,9 @@ part-sums-requires c κs =
     let f = c .before .before .before .before in
     let q = s f .pre in
     let l = w-length f in
-    let k = length-of (N (s f)) (q .0) in (
-      rw l (third-part (N (s f)) (q .0)),
+    let t = offered-tabled (N (s f)) (q .0) in
+    let k = length-of (N (s f)) t in (
+      rw l (third-part (N (s f)) t),
       omega (arith, l, k .most),
       rw l (q .2),
       omega (arith, l, q .4, k .twelve),

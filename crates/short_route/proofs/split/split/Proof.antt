@@ -5,6 +5,7 @@ use native.Mathlib.Omega.{arith}
 use lib.ListN.{length}
 use Rattle.cosine.specs.LengthLaws.{last-length}
 use borrow.Author.Needs.{needs}
+use Rattle.short_route.specs.OfferLaws.{offered-tabled}
 use Rattle.short_route.proofs.split.split.Statement.{statement}
 use Rattle.short_route.proofs.split.split.Tie as tie
 
@@ -57,7 +58,7 @@ returns-3 c = search needs
 last : (c : tie.Else3) → length (c .before .before .before .args .y .now) ≡ 72
 last c =
     let s = c .before .before .before in
-    last-length (length (s .args .y .now)) (s .pre .0) (c .before .before .if1 .left) (c .before .if2 .left) (c .if3 .left)
+    last-length (length (s .args .y .now)) (offered-tabled (length (s .args .y .now)) (s .pre .0)) (c .before .before .if1 .left) (c .before .if2 .left) (c .if3 .left)
 
 split-72-requires : tie.Need-split-72-requires
 split-72-requires c κs =

@@ -9,6 +9,7 @@ use Rattle.cosine.specs.Cosine.{reduced, toHalf, toTurn, continued}
 use Rattle.cosine.specs.Kernels.{tabled, lengths, s, eB, fB, eC, fC}
 use Rattle.cosine.specs.TableLaws.{numbers}
 use Rattle.cosine.specs.CosineLaws.{tableC}
+use Rattle.short_route.specs.ShortRoute.{offered}
 use Rattle.transform.specs.RowLaws.{rowList, rowNumbers, row-numbers}
 use Rattle.short_route.specs.RotationLaws.{rotation, oneNumbers, twoNumbers, eB-numbers, fB-numbers, eC-numbers, fC-numbers}
 use borrow.Author.Needs.{needs}
@@ -43,14 +44,14 @@ slice-aggregate-split-part-9 : tie.Need-slice-aggregate-split-part-9
 slice-aggregate-split-part-9 c = search needs
 
 split-part-requires : tie.Need-split-part-requires
-unfolding tabled every lengths rowNumbers oneNumbers twoNumbers table tableC s continued toTurn toHalf reduced numbers
+unfolding offered tabled every lengths rowNumbers oneNumbers twoNumbers table tableC s continued toTurn toHalf reduced numbers
 split-part-requires c κs =
     let x = c .before .before .before .before .before .before .before .before .before .before .before .before in
     let q = x .pre in
     let e : 24 ≡ length (x .args .y .now) = sym (q .0) in
     let third : 8 ≡ length (x .args .y .now) / 3 = omega (arith, e) in
     let sixth : 4 ≡ length (x .args .y .now) / 6 = omega (arith, e) in (
-      (subst (λ (n : ℕ). T (tabled n)) e tt, q .1),
+      (subst (λ (n : ℕ). T (offered n)) e tt, q .1),
       (
         (eB-numbers 24 ∙ ap (rotation eB) e, fB-numbers 24 ∙ ap (rotation fB) e, eC-numbers 24 ∙ ap (rotation eC) e, fC-numbers 24 ∙ ap (rotation fC) e, row-numbers 8 ∙ ap rowList third),
         ((third, sixth, sixth, sixth), (q .2 ∙ sixth, q .3 ∙ sixth, q .4 ∙ sixth)),

@@ -8,6 +8,7 @@ use lib.IntN.{ℤ, natAbs}
 use Rattle.arithmetic.specs.Lists.{at, Small}
 use Rattle.arithmetic.specs.ListLaws.{length-table}
 use Rattle.cosine.specs.LengthLaws.{length-of}
+use Rattle.short_route.specs.OfferLaws.{offered-tabled}
 use Rattle.short_route.specs.ShortRoute.{B, G}
 use Rattle.short_route.specs.ShortFoldLaws.{sumsB, sumsG}
 use Rattle.short_route.specs.ShortSizeLaws.{B-size, G-size}
@@ -91,10 +92,10 @@ module _ (c : tie.After-g-sums) where
   g-long = ap length g-is ∙ length-table (G (N s) (u s)) (N s / 6)
 
   b-small : Small b (2 ^ 57)
-  b-small = rw b-is (table-small (N s / 6) (2 ^ 57) (B (N s) (u s)) (λ k p. omega (arith, B-size (N s) (u s) (small s) k, length-of (N s) (s .pre .0 .0) .most)))
+  b-small = rw b-is (table-small (N s / 6) (2 ^ 57) (B (N s) (u s)) (λ k p. omega (arith, B-size (N s) (u s) (small s) k, length-of (N s) (offered-tabled (N s) (s .pre .0 .0)) .most)))
 
   g-small : Small g (2 ^ 57)
-  g-small = rw g-is (table-small (N s / 6) (2 ^ 57) (G (N s) (u s)) (λ k p. omega (arith, G-size (N s) (u s) (small s) k, length-of (N s) (s .pre .0 .0) .most)))
+  g-small = rw g-is (table-small (N s / 6) (2 ^ 57) (G (N s) (u s)) (λ k p. omega (arith, G-size (N s) (u s) (small s) k, length-of (N s) (offered-tabled (N s) (s .pre .0 .0)) .most)))
 
 join-requires : tie.Need-join-requires
 join-requires c κs =

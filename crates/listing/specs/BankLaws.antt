@@ -1,0 +1,132 @@
+-- Laws of the bank on a listing's hops: the blocks of the recording that they are, and a stream that no step refuses.
+use mathlib.Core.Path.{_≡_, ap, _∙_}
+use mathlib.Core.List.{List, [], _∷_, _++_}
+use Prim.Native.Nat.{ℕ, zero, suc, _+_, _-_, _*_, _/_, _^_, _≤_, _<_}
+use native.Mathlib.Omega.{arith}
+use native.Mathlib.Decide.{decLt}
+use lib.Dec.{T}
+use lib.ListN.{length, getD, take, drop, length-append, List·getD-append}
+use lib.Seq.{take-at, drop-append-add, take-append-add, getD-append-add}
+use lib.IntN.{ℤ, pos, natAbs}
+use Rattle.arithmetic.specs.Lists.{at, Small}
+use Rattle.arithmetic.specs.RoundingLaws.{Sample, sample-abs, clamp-sample}
+use Rattle.arithmetic.specs.ListLaws.{length-table, getD-table}
+use Rattle.cosine.specs.Kernels.{tabled, rising, falling}
+use Rattle.cosine.specs.LengthLaws.{length-of, part-of}
+use Rattle.transform.specs.Analysis.{y, X, direct}
+use Rattle.transform.specs.SizeLaws.{y-size, X-taken}
+use Rattle.stream.specs.Steps.{hop}
+use Rattle.recording.specs.declared.Route.the-variants.{Direct}
+use Rattle.recording.specs.Analysis.{spectrum, coefficients, block}
+use Rattle.stream.specs.StepLaws.{rising-size, falling-size}
+use Rattle.stream.specs.NextLaws.{hop-long, hop-at, Fine, fine-fresh, fine-next}
+use Rattle.listing.specs.Listing.{recording, analysed, streamAt, returned}
+
+-- ---- hops of M samples
+pub record Hops (M : ℕ) (hs : List (List ℤ)) : Type 0 where
+  pub long : (j : ℕ) → j < length hs → length (getD hs j []) ≡ M
+  pub sample : (j i : ℕ) → j < length hs → i < M → Sample (at (getD hs j []) i)
+
+pub hops-more : (M : ℕ) (h : List ℤ) (hs : List (List ℤ)) → Hops M (h ∷ hs) → Hops M hs
+hops-more M h hs a = record { long = λ j p. a .long (suc j) (omega arith); sample = λ j i p q. a .sample (suc j) i (omega arith) q }
+
+module _ (M : ℕ) where
+  -- the recording that they are
+  pub recording-long : (hs : List (List ℤ)) → Hops M hs → length (recording hs) ≡ length hs * M
+  unfolding recording
+  recording-long [] a = omega arith
+  recording-long (h ∷ hs) a = length-append h (recording hs) ∙ omega (arith, a .long 0 (omega arith), recording-long hs (hops-more M h hs a))
+
+  -- sample i of hop j
+  pub recording-at : (hs : List (List ℤ)) → Hops M hs → (j i : ℕ) → j < length hs → i < M → at (recording hs) (j * M + i) ≡ at (getD hs j []) i
+  unfolding recording
+  recording-at [] a j i p q = absurd (omega arith)
+  recording-at (h ∷ hs) a zero i p q =
+      let e : 0 * M + i ≡ i = omega arith in
+      rw e (List·getD-append h (recording hs) (pos 0) i (omega (arith, a .long 0 (omega arith))))
+  recording-at (h ∷ hs) a (suc j) i p q =
+      let e : suc j * M + i ≡ length h + (j * M + i) = omega (arith, a .long 0 (omega arith)) in
+      rw e (getD-append-add h (recording hs) (j * M + i) (pos 0) ∙ recording-at hs (hops-more M h hs a) j i (omega arith) q)
+
+  -- from hop b on
+  recording-from : (hs : List (List ℤ)) → Hops M hs → (b : ℕ) → suc b < length hs → (rest : List ℤ) × (drop (b * M) (recording hs) ≡ getD hs b [] ++ (getD hs (suc b) [] ++ rest))
+  unfolding recording
+  recording-from [] a b p = absurd (omega arith)
+  recording-from (h ∷ []) a b p = absurd (omega arith)
+  recording-from (h ∷ g ∷ hs) a zero p = let e : 0 * M ≡ 0 = omega arith in (recording hs, rw e)
+  recording-from (h ∷ g ∷ hs) a (suc b) p =
+      let r = recording-from (g ∷ hs) (hops-more M h (g ∷ hs) a) b (omega arith) in
+      let e : suc b * M ≡ length h + b * M = omega (arith, a .long 0 (omega arith)) in
+      (r .0, rw e (drop-append-add h (recording (g ∷ hs)) (b * M) ∙ r .1))
+
+-- block b is hop b and hop b + 1
+module _ (N : ℕ) (t : T (tabled N)) (hs : List (List ℤ)) (a : Hops (N / 2) hs) (b : ℕ) (p : suc b < length hs) where
+  abbrev x : List ℤ
+  x = recording hs
+
+  pub block-is : block N x b ≡ getD hs b [] ++ getD hs (suc b) []
+  unfolding block
+  block-is =
+      let h = getD hs b [] in
+      let g = getD hs (suc b) [] in
+      let r = recording-from (N / 2) hs a b p in
+      let hl : length h ≡ N / 2 = a .long b (omega arith) in
+      let gl : length g ≡ N / 2 = a .long (suc b) p in
+      let e : N ≡ length h + N / 2 = omega (arith, part-of N t .four) in
+      rw (r .1) (ap (λ (k : ℕ). take k (h ++ (g ++ r .0))) e ∙ take-append-add h (g ++ r .0) (N / 2) ∙ ap (λ (l : List ℤ). h ++ l) (take-at g (r .0) (N / 2) gl))
+
+-- ---- samples of a block, its coefficients, and the stream
+-- N samples
+pub record Block (N : ℕ) (xs : List ℤ) : Type 0 where
+  pub long : length xs ≡ N
+  pub sample : (n : ℕ) → n < N → Sample (at xs n)
+
+pub block-of : (N : ℕ) → T (tabled N) → (h g : List ℤ) → length h ≡ N / 2 → length g ≡ N / 2 → ((i : ℕ) → i < N / 2 → Sample (at h i)) → ((i : ℕ) → i < N / 2 → Sample (at g i)) → Block N (h ++ g)
+block-of N t h g hl gl hs gs = record { long = length-append h g ∙ omega (arith, part-of N t .four); sample = λ n p. go n p (decLt n (N / 2)) }
+  where
+    go : (n : ℕ) → n < N → Dec (n < N / 2) → Sample (at (h ++ g) n)
+    go n p (yes q) = rw (List·getD-append h g (pos 0) n (omega arith)) (hs n q)
+    go n p (no q) =
+        let m = n - N / 2 in
+        let e : n ≡ length h + m = omega arith in
+        rw (ap (λ (k : ℕ). at (h ++ g) k) e ∙ getD-append-add h g m (pos 0)) (gs m (omega (arith, part-of N t .four)))
+
+module _ (N : ℕ) (t : T (tabled N)) where
+  -- what analysis gives is taken
+  module _ (xs : List ℤ) (B : Block N xs) where
+    pub coefficients-long : length (coefficients Direct N xs) ≡ N / 2
+    unfolding coefficients spectrum direct
+    coefficients-long = length-table (X N (y N (rising N) (falling N) xs)) (N / 2)
+
+    coefficient : (k : ℕ) → k < N / 2 → natAbs (at (coefficients Direct N xs) k) ≤ 2 ^ 29
+    unfolding coefficients spectrum direct
+    coefficient k p =
+        rw (getD-table (X N (y N (rising N) (falling N) xs)) (pos 0) (N / 2) k p)
+        (X-taken N (y N (rising N) (falling N) xs)
+        (y-size N (rising N) (falling N) (part-of N t) (λ n q. rising-size N n) (λ n q. falling-size N n) xs (λ n q. sample-abs (B .sample n q)))
+        (length-of N t) k)
+
+    pub coefficients-small : Small (coefficients Direct N xs) (2 ^ 29)
+    coefficients-small = record { small = λ k p. coefficient k (omega (arith, coefficients-long)) }
+
+  -- the streams of a listing, and the hops that come back
+  module _ (hs : List (List ℤ)) (a : Hops (N / 2) hs) where
+    pub blocks : (b : ℕ) → suc b < length hs → Block N (block N (recording hs) b)
+    blocks b p =
+        rw (block-is N t hs a b p)
+        (block-of N t (getD hs b []) (getD hs (suc b) []) (a .long b (omega arith)) (a .long (suc b) p) (λ i q. a .sample b i (omega arith) q) (λ i q. a .sample (suc b) i p q))
+
+    pub stream-fine : (b : ℕ) → b < length hs → Fine N (streamAt N (recording hs) b)
+    unfolding streamAt analysed
+    stream-fine zero p = fine-fresh N t
+    stream-fine (suc b) p =
+        let c = coefficients Direct N (block N (recording hs) b) in
+        fine-next N t (streamAt N (recording hs) b) (stream-fine b (omega arith)) c (coefficient (block N (recording hs) b) (blocks b p))
+
+    pub returned-long : (b : ℕ) → b < length hs → length (returned N (recording hs) b) ≡ N / 2
+    unfolding returned
+    returned-long b p = hop-long N (streamAt N (recording hs) b) (stream-fine b p .n-is) (analysed N (recording hs) b)
+
+    pub returned-sample : (b : ℕ) → b < length hs → (i : ℕ) → i < N / 2 → Sample (at (returned N (recording hs) b) i)
+    unfolding returned
+    returned-sample b p i q = rw (hop-at N (streamAt N (recording hs) b) (stream-fine b p .n-is) (analysed N (recording hs) b) i q) (clamp-sample _)

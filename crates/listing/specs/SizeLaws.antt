@@ -1,0 +1,186 @@
+-- Laws of size: how many hops a listing can have, and how many bytes are printed of it.
+use mathlib.Core.Path.{_≡_, refl, sym, ap, _∙_}
+use mathlib.Core.Bool.{Bool, true, false, cond}
+use mathlib.Core.List.{List, [], _∷_, _++_, map}
+use Prim.Native.Nat.{ℕ, zero, suc, _+_, _-_, _*_, _/_, _≤_, _<_}
+use native.Mathlib.Nat.{mul-le-mul-right}
+use native.Mathlib.Omega.{arith}
+use native.Mathlib.Numerals.{add-one}
+use native.Mathlib.Decide.{ℕ-discrete}
+use lib.Dec.{T, eqb}
+use lib.ListN.{length, getD, length-append}
+use lib.IntN.{ℤ, natAbs}
+use borrow.Author.Tests.{eqb-true}
+use Rattle.arithmetic.specs.Lists as Entries
+use Rattle.arithmetic.specs.Lists.{at}
+use Rattle.arithmetic.specs.RoundingLaws.{sample-abs}
+use Rattle.cosine.specs.Kernels.{tabled}
+use Rattle.cosine.specs.LengthLaws.{last-length, length-of}
+use Rattle.listing.specs.Bytes.{lineFeed, comma, word-hop, word-s, word-refused}
+use Rattle.listing.specs.Number.{isNatural, isSigned, isNumber, decimal, printed}
+use Rattle.listing.specs.Lines.{inFront, split, ended, lines, fields, isHop}
+use Rattle.listing.specs.LineLaws.{split-some}
+use Rattle.listing.specs.HopLaws.{sample-number, hop-fields, hop-field, hops-counted, hops-length, hops-sample, hops-few}
+use Rattle.listing.specs.Verdicts.{limit, verdict, hopsOf}
+use Rattle.listing.specs.VerdictLaws.{Taken, verdict-taken, verdict-code, verdict-line}
+use Rattle.listing.specs.Print.{more, line, header, row, refusal}
+use Rattle.listing.specs.PrintLaws.{decimal-most, printed-most, names-next}
+use Rattle.listing.specs.Listing.{recording, returned, rows, table, listing}
+use Rattle.listing.specs.BankLaws.{Hops, returned-long, returned-sample}
+
+-- ---- the bytes of parts, with one more for each
+unfoldable weight : List (List ℕ) → ℕ
+weight [] = 0
+weight (f ∷ fs) = suc (length f + weight fs)
+
+split-weight : (p : ℕ) (s : List ℕ) → weight (split p s) ≡ suc (length s)
+unfolding split inFront weight
+split-weight p [] = refl
+split-weight p (b ∷ s) = go (eqb b p) (split p s) (split-some p s) (split-weight p s)
+  where
+    go : (t : Bool) (fs : List (List ℕ)) → 1 ≤ length fs → weight fs ≡ suc (length s) → weight (cond t ([] ∷ fs) (inFront b fs)) ≡ suc (suc (length s))
+    go true fs h k = omega arith
+    go false [] h k = absurd (omega arith)
+    go false (f ∷ fs) h k = omega arith
+
+ended-weight : (fs : List (List ℕ)) → weight (ended fs) ≤ weight fs
+unfolding ended weight
+ended-weight [] = omega arith
+ended-weight (f ∷ []) = omega arith
+ended-weight (f ∷ g ∷ fs) = omega (arith, ended-weight (g ∷ fs))
+
+parts-weight : (m : ℕ) (fs : List (List ℕ)) → ((i : ℕ) → i < length fs → m ≤ suc (length (getD fs i []))) → length fs * m ≤ weight fs
+unfolding weight
+parts-weight m [] h = omega arith
+parts-weight m (f ∷ fs) h = omega (arith, h 0 (omega arith), parts-weight m fs (λ i p. h (suc i) (omega arith)))
+
+behind-weight : (m H : ℕ) (fs : List (List ℕ)) → length fs ≡ suc H → ((i : ℕ) → i < H → m ≤ suc (length (getD fs (suc i) []))) → H * m < weight fs
+unfolding weight
+behind-weight m H [] e h = absurd (omega arith)
+behind-weight m H (f ∷ fs) e h =
+    let k : H ≡ length fs = omega arith in
+    rw k (omega (arith, parts-weight m fs (λ i p. h i (omega arith))))
+
+-- ---- a hop of M samples takes at least 2M bytes, its line feed among them
+number-long : (f : List ℕ) → T (isNumber f) → 1 ≤ length f
+unfolding isNumber isSigned isNatural
+number-long [] t = absurd t
+number-long (b ∷ f) t = omega arith
+
+hop-bytes : (M : ℕ) (l : List ℕ) → T (isHop M l) → M * 2 ≤ suc (length l)
+unfolding fields
+hop-bytes M l t = omega (arith, parts-weight 2 (fields l) (λ i p. field i (omega (arith, hop-fields M l t))), hop-fields M l t, split-weight comma l)
+  where
+    field : (i : ℕ) → i < M → 2 ≤ suc (length (getD (fields l) i []))
+    field i p = omega (arith, number-long (getD (fields l) i []) (sample-number (getD (fields l) i []) (hop-field M l t i p)))
+
+-- so few hops fit
+module _ {text : List ℕ} {N H : ℕ} (K : Taken text N H) where
+  pub hops-bytes : H * (N / 2 * 2) ≤ limit
+  unfolding lines
+  hops-bytes = omega (arith, behind-weight (N / 2 * 2) H (lines text) (K .counted) (λ i p. hop-bytes (N / 2) (getD (lines text) (suc i) []) (K .hop i p)), ended-weight (split lineFeed text), split-weight lineFeed text, K .small)
+
+  pub taken-hops : Hops (N / 2) (hopsOf text)
+  taken-hops = record {
+    long = λ j p. hops-length K j (omega (arith, hops-counted K));
+    sample = λ j i p q. hops-sample K j i (omega (arith, hops-counted K)) q;
+  }
+
+-- ---- what is printed, with M = N / 2
+abbrev name : ℕ → List ℕ
+name i = word-s ++ decimal i
+
+names-none : length (more (Entries.table 0 name)) ≡ 0
+unfolding Entries.table more
+names-none = refl
+
+names-most : (m k : ℕ) → k ≤ m → m ≤ 99999 → length (more (Entries.table k name)) ≤ 7 * k
+names-most m zero h l = omega (arith, names-none)
+names-most m (suc k) h l =
+    let e = ap length (ap (λ (n : ℕ). more (Entries.table n name)) (sym (add-one k)) ∙ names-next name k) in
+    omega (arith, e, length-append (more (Entries.table k name)) (comma ∷ name k), length-append word-s (decimal k), decimal-most k (omega arith), names-most m k (omega arith) l)
+
+pub header-most : (M : ℕ) → M ≤ 99999 → length (header M) ≤ 7 * M + 4
+unfolding header line
+header-most M h =
+    let names = more (Entries.table M name) in
+    omega (arith, length-append (word-hop ++ names) (lineFeed ∷ []), length-append word-hop names, names-most M M (omega arith) h)
+
+fields-most : (xs : List ℤ) → ((i : ℕ) → i < length xs → natAbs (at xs i) ≤ 99999) → length (more (map printed xs)) ≤ 7 * length xs
+unfolding more
+fields-most [] h = omega arith
+fields-most (x ∷ xs) h =
+    omega (arith, length-append (printed x) (more (map printed xs)), printed-most x (h 0 (omega arith)), fields-most xs (λ i p. h (suc i) (omega arith)))
+
+pub row-most : (j : ℕ) (xs : List ℤ) → j ≤ 99999 → ((i : ℕ) → i < length xs → natAbs (at xs i) ≤ 99999) → length (row j xs) ≤ 7 * length xs + 6
+unfolding row line
+row-most j xs p h =
+    let samples = more (map printed xs) in
+    omega (arith, length-append (decimal j ++ samples) (lineFeed ∷ []), length-append (decimal j) samples, decimal-most j p, fields-most xs h)
+
+pub refusal-most : (code at : ℕ) → code ≤ 99999 → at ≤ 99999 → length (refusal code at) ≤ 20
+unfolding refusal line more
+refusal-most code at p q =
+    let fs = comma ∷ (decimal code ++ (comma ∷ (decimal at ++ []))) in
+    omega (arith, length-append (word-refused ++ fs) (lineFeed ∷ []), length-append word-refused fs, length-append (decimal code) (comma ∷ (decimal at ++ [])), length-append (decimal at) [], decimal-most code p, decimal-most at q)
+
+rows-most : (hops : ℕ → List ℤ) (c k : ℕ) → ((j : ℕ) → j < k → length (row (suc j) (hops (suc j))) ≤ c) → length (rows hops k) ≤ k * c
+unfolding rows
+rows-most hops c zero h = omega arith
+rows-most hops c (suc k) h =
+    omega (arith, length-append (rows hops k) (row (suc k) (hops (suc k))), h k (omega arith), rows-most hops c k (λ j p. h j (omega arith)))
+
+-- the most bytes that are printed
+abbrev pub room : ℕ
+room = 262144
+
+-- a header and H - 2 rows
+pub table-room : (N H : ℕ) → T (tabled N) → H * (N / 2 * 2) ≤ limit → 7 * (N / 2) + 4 + (H - 2) * (7 * (N / 2) + 6) ≤ room
+table-room N H t h = go (ℕ-discrete N 12) (ℕ-discrete N 24) (ℕ-discrete N 36)
+  where
+    go : Dec (N ≡ 12) → Dec (N ≡ 24) → Dec (N ≡ 36) → 7 * (N / 2) + 4 + (H - 2) * (7 * (N / 2) + 6) ≤ room
+    go (yes e) b c = rw e (omega (arith, rw e at h))
+    go (no a) (yes e) c = rw e (omega (arith, rw e at h))
+    go (no a) (no b) (yes e) = rw e (omega (arith, rw e at h))
+    go (no a) (no b) (no c) = let e = last-length N t a b c in rw e (omega (arith, rw e at h))
+
+module _ {text : List ℕ} {N H : ℕ} (K : Taken text N H) where
+  -- the row of an inner hop
+  pub taken-row : (j : ℕ) → j < H - 2 → length (row (suc j) (returned N (recording (hopsOf text)) (suc j))) ≤ 7 * (N / 2) + 6
+  taken-row j p =
+      let hs = hopsOf text in
+      let h = returned N (recording hs) (suc j) in
+      let q : suc j < length hs = omega (arith, hops-counted K) in
+      let l = returned-long N (K .length-tabled) hs (taken-hops K) (suc j) q in
+      omega (
+        arith,
+        l,
+        row-most (suc j) h (omega (arith, hops-few K, K .small))
+            (λ i r. omega (arith, sample-abs (returned-sample N (K .length-tabled) hs (taken-hops K) (suc j) q i (omega (arith, l))))),
+      )
+
+  -- behind the rows of hops 1 to k there is room for another
+  pub row-room : (k from at most : ℕ) → k < H - 2 → at ≡ from + length (rows (returned N (recording (hopsOf text))) k) → from + (H - 2) * (7 * (N / 2) + 6) ≤ most → at + (7 * (N / 2) + 6) ≤ most
+  row-room k from at most p is h =
+      let c = 7 * (N / 2) + 6 in
+      let l = rows-most (returned N (recording (hopsOf text))) c k (λ j q. taken-row j (omega arith)) in
+      let m : suc k * c ≤ (H - 2) * c = mul-le-mul-right c p in
+      omega arith
+
+  pub taken-most : length (table N H (returned N (recording (hopsOf text)))) ≤ room
+  unfolding table
+  taken-most =
+      let f = returned N (recording (hopsOf text)) in
+      omega (arith, length-append (header (N / 2)) (rows f (H - 2)), header-most (N / 2) (omega (arith, length-of N (K .length-tabled) .most)), rows-most f (7 * (N / 2) + 6) (H - 2) taken-row, table-room N H (K .length-tabled) (hops-bytes K))
+
+-- whatever the text is
+pub listing-most : (text : List ℕ) → length (listing text) ≤ room
+unfolding listing
+listing-most text = go (eqb (verdict text .code) 0) refl
+  where
+    taken : List ℕ
+    taken = table (verdict text .n) (verdict text .hops) (returned (verdict text .n) (recording (hopsOf text)))
+
+    go : (b : Bool) → eqb (verdict text .code) 0 ≡ b → length (cond b taken (refusal (verdict text .code) (verdict text .line))) ≤ room
+    go true e = taken-most (verdict-taken text (eqb-true (verdict text .code) 0 e))
+    go false e = omega (arith, refusal-most (verdict text .code) (verdict text .line) (omega (arith, verdict-code text)) (omega (arith, verdict-line text)))

@@ -1,0 +1,28 @@
+// The listing program on bytes: `round_trip` takes any input, and what it writes is the definition of specs/Listing.
+mod bank;
+mod hop;
+mod line;
+mod number;
+mod print;
+mod verdict;
+
+ghost use Rattle.listing.specs.Listing.{listing, Written};
+
+// The most bytes that are printed.
+pub const ROOM: usize = 262144;
+
+// Writes what is printed for an input to the start of a buffer, and answers how many bytes that is.
+pub fn round_trip(input: &[u8], out: &mut [u8; ROOM]) -> usize
+    ensures { λ r. ⌜ Written (listing (now (input .entry))) (now (out .entry)) (now (out .exit)) r ⌝ }
+{
+    let v = verdict::verify(input);
+    let n = v.n;
+    if v.code != 0 {
+        return print::put_refusal(v.code, v.line, out, 0);
+    }
+    let at = print::put_header(n / 2, out, 0);
+    if v.hops < 3 {
+        return at;
+    }
+    bank::put_rows(input, n, v.hops, out, at)
+}
