@@ -1,5 +1,5 @@
 -- Laws of floor, rnd and clamp. Nothing above this crate opens their text.
-use mathlib.Core.Path.{_≡_, refl}
+use mathlib.Core.Path.{_≡_, refl, sym, ap, _∙_}
 use mathlib.Core.Bool.{Bool, true, false}
 use mathlib.Core.Logic.{⊎-elim}
 use Prim.Native.Nat.{ℕ, suc, _+_, _*_, _/_, _%_, _≤_, _<_}
@@ -94,6 +94,12 @@ floor-floor a c {b} {m} p q r = floor-unique (twice a c b m (floor a b) (floor (
           low = simp posints (omega (arith, simp posints at (F .low), simp posints at (mul-le b (G .low))));
           high = simp posints (omega (arith, simp posints at (F .high), simp posints at (mul-le b up)));
         }
+
+pub floor-by : (a : ℤ) {b m : ℕ} → 0 < b → 0 < m → floor (floor a b) m ≡ floor a (b * m)
+floor-by a {b} {m} p q =
+    let e : floor a b +ℤ pos 0 ≡ floor a b = simp ints (omega zarith) in
+    let f : a +ℤ pos b *ℤ pos 0 ≡ a = simp ints (omega zarith) in
+    ap (λ (z : ℤ). floor z m) (sym e) ∙ floor-floor a (pos 0) {b = b} {m = m} p q (mul-pos p q) ∙ ap (λ (z : ℤ). floor z (b * m)) f
 
 -- ---- rnd, for every b above 0, even or odd
 pub rnd-near : (a : ℤ) {b : ℕ} → 0 < b → natAbs (pos b *ℤ rnd a b -ℤ a) ≤ b / 2

@@ -27,12 +27,40 @@ fn floor_div(a: i64, d: usize) -> i64
     q
 }
 
+// The floor of a / 3: a divisor that the compiler knows costs a multiplication, another costs a division.
+fn third(a: i64) -> i64
+    requires { ⌜ natAbs a < 2 ^ 63 ⌝ }
+    ensures { λ r. ⌜ r ≡ floor a 3 ⌝ }
+{
+    floor_div(a, 3)
+}
+
+// The floor of a / 2n. Twice a tabled length is 3 or 9 times a power of two.
+fn floor_double(a: i64, n: usize) -> i64
+    requires { ⌜ (0 < n) × (n < 2 ^ 16) × (natAbs a < 2 ^ 63) ⌝ }
+    ensures { λ r. ⌜ r ≡ floor a (2 * n) ⌝ }
+{
+    if n == 12 {
+        return third(a >> 3);
+    }
+    if n == 24 {
+        return third(a >> 4);
+    }
+    if n == 36 {
+        return third(third(a >> 3));
+    }
+    if n == 72 {
+        return third(third(a >> 4));
+    }
+    floor_div(a, 2 * n)
+}
+
 // rnd(a / (n × 2^30)). A shift by 29 goes first, so that no sum can overflow and the division is of a small number.
 pub fn rnd_scaled(a: i64, n: usize) -> i64
     requires { ⌜ (0 < n) × (n < 2 ^ 16) ⌝ }
     ensures { λ r. ⌜ r ≡ rnd a (n * 2 ^ 30) ⌝ }
 {
-    floor_div((a >> 29) + n as i64, 2 * n)
+    floor_double((a >> 29) + n as i64, n)
 }
 
 // A sample's range: -32,768 .. 32,767.

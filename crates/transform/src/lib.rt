@@ -9,26 +9,28 @@ ghost use mathlib.Core.Path.{_≡_};
 ghost use Prim.Native.Nat.{_/_, _^_};
 ghost use lib.Dec.{T};
 ghost use lib.ListN.{length};
-ghost use Rattle.arithmetic.specs.Lists.{table, Small};
+ghost use Rattle.arithmetic.specs.Lists.{at, table, Small};
 ghost use Rattle.cosine.specs.Kernels.{tabled, rising, falling};
 ghost use Rattle.transform.specs.Analysis.{y, direct};
 ghost use Rattle.transform.specs.Synthesis.{V′};
+ghost use Rattle.transform.specs.FoldLaws.{folded};
+ghost use Rattle.transform.specs.InverseLaws.{folds};
 ghost use Rattle.transform.specs.RowLaws.{riseList, fallList, rowList};
 
-// The coefficients of a block by the direct route. The length's window and rows are lent, and room for the folded block.
-fn direct_block(
-    n: usize,
-    left: &[i32],
-    right: &[i32],
-    rows: &[i32],
-    x: &[i16],
-    z: &mut [i32],
-    out: &mut [i32],
-)
-    requires { ⌜ T (tabled n) × (now left ≡ riseList n) × (now right ≡ fallList n) × (now rows ≡ rowList n) × (length (now x) ≡ n) × (length (now z) ≡ n / 2) × (length (now out) ≡ n / 2) ⌝ }
-    ensures { λ _. ⌜ now (out .exit) ≡ direct n (y n (rising n) (falling n) (now (x .entry))) ⌝ }
+// The block, windowed and folded, into z. The length's window is lent.
+// A length's functions call this and the next one by themselves, so that the compiler knows every count.
+fn folded_block(n: usize, left: &[i32], right: &[i32], x: &[i16], z: &mut [i32])
+    requires { ⌜ T (tabled n) × (now left ≡ riseList n) × (now right ≡ fallList n) × (length (now x) ≡ n) × (length (now z) ≡ n / 2) ⌝ }
+    ensures { λ _. ⌜ (now (z .exit) ≡ table (n / 2) (folded n (y n (at (riseList n)) (at (fallList n)) (now (x .entry))))) × Small (now (z .exit)) (2 ^ 24) ⌝ }
 {
     fold::fold(left, right, x, z);
+}
+
+// The coefficients of a block x by the direct route, z being the block folded. The length's rows are lent.
+fn direct_block(n: usize, rows: &[i32], x: &[i16], z: &[i32], out: &mut [i32])
+    requires { ⌜ T (tabled n) × (now rows ≡ rowList n) × (now z ≡ table (n / 2) (folded n (y n (at (riseList n)) (at (fallList n)) (now x)))) × Small (now z) (2 ^ 24) × (length (now out) ≡ n / 2) ⌝ }
+    ensures { λ _. ⌜ now (out .exit) ≡ direct n (y n (rising n) (falling n) (now (x .entry))) ⌝ }
+{
     sums::spectrum(z, rows, out);
 }
 
@@ -37,15 +39,8 @@ fn direct_12(x: &[i16], out: &mut [i32])
     ensures { λ _. ⌜ now (out .exit) ≡ direct 12 (y 12 (rising 12) (falling 12) (now (x .entry))) ⌝ }
 {
     let mut z = [0i32; 6];
-    direct_block(
-        12,
-        &tables::RISE_12,
-        &tables::FALL_12,
-        &tables::ROWS_12,
-        x,
-        &mut z,
-        out,
-    );
+    folded_block(12, &tables::RISE_12, &tables::FALL_12, x, &mut z);
+    direct_block(12, &tables::ROWS_12, x, &z, out);
 }
 
 fn direct_24(x: &[i16], out: &mut [i32])
@@ -53,15 +48,8 @@ fn direct_24(x: &[i16], out: &mut [i32])
     ensures { λ _. ⌜ now (out .exit) ≡ direct 24 (y 24 (rising 24) (falling 24) (now (x .entry))) ⌝ }
 {
     let mut z = [0i32; 12];
-    direct_block(
-        24,
-        &tables::RISE_24,
-        &tables::FALL_24,
-        &tables::ROWS_24,
-        x,
-        &mut z,
-        out,
-    );
+    folded_block(24, &tables::RISE_24, &tables::FALL_24, x, &mut z);
+    direct_block(24, &tables::ROWS_24, x, &z, out);
 }
 
 fn direct_36(x: &[i16], out: &mut [i32])
@@ -69,15 +57,8 @@ fn direct_36(x: &[i16], out: &mut [i32])
     ensures { λ _. ⌜ now (out .exit) ≡ direct 36 (y 36 (rising 36) (falling 36) (now (x .entry))) ⌝ }
 {
     let mut z = [0i32; 18];
-    direct_block(
-        36,
-        &tables::RISE_36,
-        &tables::FALL_36,
-        &tables::ROWS_36,
-        x,
-        &mut z,
-        out,
-    );
+    folded_block(36, &tables::RISE_36, &tables::FALL_36, x, &mut z);
+    direct_block(36, &tables::ROWS_36, x, &z, out);
 }
 
 fn direct_72(x: &[i16], out: &mut [i32])
@@ -85,15 +66,8 @@ fn direct_72(x: &[i16], out: &mut [i32])
     ensures { λ _. ⌜ now (out .exit) ≡ direct 72 (y 72 (rising 72) (falling 72) (now (x .entry))) ⌝ }
 {
     let mut z = [0i32; 36];
-    direct_block(
-        72,
-        &tables::RISE_72,
-        &tables::FALL_72,
-        &tables::ROWS_72,
-        x,
-        &mut z,
-        out,
-    );
+    folded_block(72, &tables::RISE_72, &tables::FALL_72, x, &mut z);
+    direct_block(72, &tables::ROWS_72, x, &z, out);
 }
 
 // The coefficients of a block by the direct route, for `filter_bank`: each length lends its own tables.
@@ -116,20 +90,19 @@ pub fn analyse_direct(n: usize, x: &[i16], out: &mut [i32])
     direct_72(x, out);
 }
 
-// V(0) .. V(N-1) of a block's coefficients. The length's window and rows are lent, and room for the sums.
-fn inverse_block(
-    n: usize,
-    left: &[i32],
-    right: &[i32],
-    rows: &[i32],
-    x: &[i32],
-    t: &mut [i64],
-    v: &mut [i64],
-)
-    requires { ⌜ T (tabled n) × (now left ≡ riseList n) × (now right ≡ fallList n) × (now rows ≡ rowList n) × (length (now x) ≡ n / 2) × Small (now x) (2 ^ 29) × (length (now t) ≡ n / 2) × (length (now v) ≡ n) ⌝ }
-    ensures { λ _. ⌜ now (v .exit) ≡ table n (V′ n (rising n) (falling n) (now (x .entry))) ⌝ }
+// The sums of a block's coefficients x, into t. The length's rows are lent.
+fn sums_block(n: usize, rows: &[i32], x: &[i32], t: &mut [i64])
+    requires { ⌜ T (tabled n) × (now rows ≡ rowList n) × (length (now x) ≡ n / 2) × Small (now x) (2 ^ 29) × (length (now t) ≡ n / 2) ⌝ }
+    ensures { λ _. ⌜ (now (t .exit) ≡ table (n / 2) (folds n (now (x .entry)))) × Small (now (t .exit)) (2 ^ 62) ⌝ }
 {
     unfold::sums(x, rows, t);
+}
+
+// V(0) .. V(N-1) of a block's coefficients x, t being their sums. The length's window is lent.
+fn inverse_block(n: usize, left: &[i32], right: &[i32], x: &[i32], t: &[i64], v: &mut [i64])
+    requires { ⌜ T (tabled n) × (now left ≡ riseList n) × (now right ≡ fallList n) × (now t ≡ table (n / 2) (folds n (now x))) × Small (now t) (2 ^ 62) × (length (now v) ≡ n) ⌝ }
+    ensures { λ _. ⌜ now (v .exit) ≡ table n (V′ n (rising n) (falling n) (now (x .entry))) ⌝ }
+{
     unfold::values(left, right, t, v);
 }
 
@@ -138,15 +111,8 @@ fn inverse_12(x: &[i32], v: &mut [i64])
     ensures { λ _. ⌜ now (v .exit) ≡ table 12 (V′ 12 (rising 12) (falling 12) (now (x .entry))) ⌝ }
 {
     let mut t = [0i64; 6];
-    inverse_block(
-        12,
-        &tables::RISE_12,
-        &tables::FALL_12,
-        &tables::ROWS_12,
-        x,
-        &mut t,
-        v,
-    );
+    sums_block(12, &tables::ROWS_12, x, &mut t);
+    inverse_block(12, &tables::RISE_12, &tables::FALL_12, x, &t, v);
 }
 
 fn inverse_24(x: &[i32], v: &mut [i64])
@@ -154,15 +120,8 @@ fn inverse_24(x: &[i32], v: &mut [i64])
     ensures { λ _. ⌜ now (v .exit) ≡ table 24 (V′ 24 (rising 24) (falling 24) (now (x .entry))) ⌝ }
 {
     let mut t = [0i64; 12];
-    inverse_block(
-        24,
-        &tables::RISE_24,
-        &tables::FALL_24,
-        &tables::ROWS_24,
-        x,
-        &mut t,
-        v,
-    );
+    sums_block(24, &tables::ROWS_24, x, &mut t);
+    inverse_block(24, &tables::RISE_24, &tables::FALL_24, x, &t, v);
 }
 
 fn inverse_36(x: &[i32], v: &mut [i64])
@@ -170,15 +129,8 @@ fn inverse_36(x: &[i32], v: &mut [i64])
     ensures { λ _. ⌜ now (v .exit) ≡ table 36 (V′ 36 (rising 36) (falling 36) (now (x .entry))) ⌝ }
 {
     let mut t = [0i64; 18];
-    inverse_block(
-        36,
-        &tables::RISE_36,
-        &tables::FALL_36,
-        &tables::ROWS_36,
-        x,
-        &mut t,
-        v,
-    );
+    sums_block(36, &tables::ROWS_36, x, &mut t);
+    inverse_block(36, &tables::RISE_36, &tables::FALL_36, x, &t, v);
 }
 
 fn inverse_72(x: &[i32], v: &mut [i64])
@@ -186,33 +138,26 @@ fn inverse_72(x: &[i32], v: &mut [i64])
     ensures { λ _. ⌜ now (v .exit) ≡ table 72 (V′ 72 (rising 72) (falling 72) (now (x .entry))) ⌝ }
 {
     let mut t = [0i64; 36];
-    inverse_block(
-        72,
-        &tables::RISE_72,
-        &tables::FALL_72,
-        &tables::ROWS_72,
-        x,
-        &mut t,
-        v,
-    );
+    sums_block(72, &tables::ROWS_72, x, &mut t);
+    inverse_block(72, &tables::RISE_72, &tables::FALL_72, x, &t, v);
 }
 
-// V(0) .. V(N-1) of a block's coefficients, for `stream`: each length lends its own tables.
+// V(0) .. V(N-1) of a block's coefficients, for `stream`: each length lends its own tables, and says its count.
 pub fn inverse(n: usize, x: &[i32], v: &mut [i64])
     requires { ⌜ T (tabled n) × (length (now x) ≡ n / 2) × Small (now x) (2 ^ 29) × (length (now v) ≡ n) ⌝ }
     ensures { λ _. ⌜ now (v .exit) ≡ table n (V′ n (rising n) (falling n) (now (x .entry))) ⌝ }
 {
     if n == 12 {
-        inverse_12(x, v);
+        inverse_12(&x[..6], v);
         return;
     }
     if n == 24 {
-        inverse_24(x, v);
+        inverse_24(&x[..12], v);
         return;
     }
     if n == 36 {
-        inverse_36(x, v);
+        inverse_36(&x[..18], v);
         return;
     }
-    inverse_72(x, v);
+    inverse_72(&x[..36], v);
 }

@@ -36,28 +36,25 @@ module _ (c : tie.Start) (b : ℕ) (p : 2 ≤ b) where
   sum-abs : natAbs (toZ w64 (ofZ w64 (toZ w64 (ofZ w64 (shrZ (toZ w64 (ofZ w64 (c .args .a))) b)) +ℤ toZ w64 (c .args .n)))) < 2 ^ 63
   sum-abs = rw (sum-is, toZ-ofZ dividend-fits) (omega (arith, dividend-abs))
 
-cast-floor-div : tie.Need-cast-floor-div
-cast-floor-div c = search needs
+cast-floor-double : tie.Need-cast-floor-double
+cast-floor-double c = search needs
 
-add-floor-div : tie.Need-add-floor-div
-add-floor-div c = sum-fits c (2 ^ 29) (lit≤ tt)
+add-floor-double : tie.Need-add-floor-double
+add-floor-double c = sum-fits c (2 ^ 29) (lit≤ tt)
 
-mul-floor-div : tie.Need-mul-floor-div
-mul-floor-div c = search needs
-
-floor-div-requires : tie.Need-floor-div-requires
-floor-div-requires c κs = (omega arith, omega arith, sum-abs c (2 ^ 29) (lit≤ tt))
+floor-double-requires : tie.Need-floor-double-requires
+floor-double-requires c κs = (omega arith, omega arith, sum-abs c (2 ^ 29) (lit≤ tt))
 
 returns : tie.Need-returns
 returns c =
     let s = c .before in
     let n = s .args .n in
     let e : 2 ^ 29 * (2 * n) ≡ n * 2 ^ 30 = omega arith in
-    toZ-ofZ (record { sfits = c .floor-div .ok })
-    ∙ c .floor-div .ensures
+    toZ-ofZ (record { sfits = c .floor-double .ok })
+    ∙ c .floor-double .ensures
     ∙ ap (λ (z : ℤ). floor z (2 * n)) (ap (λ (z : ℤ). toZ w64 (ofZ w64 z)) (sum-is s (2 ^ 29) (lit≤ tt)) ∙ toZ-ofZ (dividend-fits s (2 ^ 29) (lit≤ tt)))
     ∙ rw (← e) (rnd-after (s .args .a) (2 ^ 29) n (lit< tt) (s .pre .0))
 
 pub rnd-scaled-spec : {M : Type 1} → statement M
 rnd-scaled-spec =
-    tie.close (tie.spec cast-floor-div add-floor-div mul-floor-div floor-div-requires returns)
+    tie.close (tie.spec cast-floor-double add-floor-double floor-double-requires returns)

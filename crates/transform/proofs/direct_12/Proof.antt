@@ -10,21 +10,30 @@ use borrow.Author.Needs.{needs}
 use Rattle.transform.proofs.direct_12.Statement.{statement}
 use Rattle.transform.proofs.direct_12.Tie as tie
 
+slice-aggregate-folded-block : tie.Need-slice-aggregate-folded-block
+slice-aggregate-folded-block c = search needs
+
+slice-aggregate-folded-block-2 : tie.Need-slice-aggregate-folded-block-2
+slice-aggregate-folded-block-2 c = search needs
+
+slice-aggregate-folded-block-3 : tie.Need-slice-aggregate-folded-block-3
+slice-aggregate-folded-block-3 c = search needs
+
+folded-block-requires : tie.Need-folded-block-requires
+unfolding tabled every lengths riseNumbers fallNumbers rowNumbers table tableC continued toTurn toHalf reduced numbers
+folded-block-requires c κs = (tt, rise-numbers 12, fall-numbers 12, c .before .before .before .pre .0, refl)
+
 slice-aggregate-direct-block : tie.Need-slice-aggregate-direct-block
 slice-aggregate-direct-block c = search needs
 
 slice-aggregate-direct-block-2 : tie.Need-slice-aggregate-direct-block-2
 slice-aggregate-direct-block-2 c = search needs
 
-slice-aggregate-direct-block-3 : tie.Need-slice-aggregate-direct-block-3
-slice-aggregate-direct-block-3 c = search needs
-
-slice-aggregate-direct-block-4 : tie.Need-slice-aggregate-direct-block-4
-slice-aggregate-direct-block-4 c = search needs
-
 direct-block-requires : tie.Need-direct-block-requires
 unfolding tabled every lengths riseNumbers fallNumbers rowNumbers table tableC continued toTurn toHalf reduced numbers
-direct-block-requires c κs = (tt, rise-numbers 12, fall-numbers 12, row-numbers 12, c .before .before .before .before .before .pre .0, refl, c .before .before .before .before .before .pre .1)
+direct-block-requires c κs =
+    let f = c .before .before .before .before .folded-block in
+    (tt, row-numbers 12, f .ensures .0, f .ensures .1, c .before .before .before .before .before .before .before .before .pre .1)
 
 same-length : tie.Need-same-length
 same-length c = search needs
@@ -36,10 +45,12 @@ pub direct-12-spec : {M : Type 1} → statement M
 direct-12-spec =
     tie.close
     (tie.spec
+    slice-aggregate-folded-block
+    slice-aggregate-folded-block-2
+    slice-aggregate-folded-block-3
+    folded-block-requires
     slice-aggregate-direct-block
     slice-aggregate-direct-block-2
-    slice-aggregate-direct-block-3
-    slice-aggregate-direct-block-4
     direct-block-requires
     same-length
     returns)

@@ -10,6 +10,16 @@ use borrow.Author.Needs.{needs}
 use Rattle.transform.proofs.inverse_36.Statement.{statement}
 use Rattle.transform.proofs.inverse_36.Tie as tie
 
+slice-aggregate-sums-block : tie.Need-slice-aggregate-sums-block
+slice-aggregate-sums-block c = search needs
+
+slice-aggregate-sums-block-2 : tie.Need-slice-aggregate-sums-block-2
+slice-aggregate-sums-block-2 c = search needs
+
+sums-block-requires : tie.Need-sums-block-requires
+unfolding tabled every lengths riseNumbers fallNumbers rowNumbers table tableC continued toTurn toHalf reduced numbers
+sums-block-requires c κs = let q = c .before .before .pre in (tt, row-numbers 36, q .0, q .1, refl)
+
 slice-aggregate-inverse-block : tie.Need-slice-aggregate-inverse-block
 slice-aggregate-inverse-block c = search needs
 
@@ -19,14 +29,11 @@ slice-aggregate-inverse-block-2 c = search needs
 slice-aggregate-inverse-block-3 : tie.Need-slice-aggregate-inverse-block-3
 slice-aggregate-inverse-block-3 c = search needs
 
-slice-aggregate-inverse-block-4 : tie.Need-slice-aggregate-inverse-block-4
-slice-aggregate-inverse-block-4 c = search needs
-
 inverse-block-requires : tie.Need-inverse-block-requires
 unfolding tabled every lengths riseNumbers fallNumbers rowNumbers table tableC continued toTurn toHalf reduced numbers
 inverse-block-requires c κs =
-    let q = c .before .before .before .before .before .pre in
-    (tt, rise-numbers 36, fall-numbers 36, row-numbers 36, q .0, q .1, refl, q .2)
+    let f = c .before .before .before .before .before .sums-block in
+    (tt, rise-numbers 36, fall-numbers 36, f .ensures .0, f .ensures .1, c .before .before .before .before .before .before .before .before .pre .2)
 
 same-length : tie.Need-same-length
 same-length c = search needs
@@ -38,10 +45,12 @@ pub inverse-36-spec : {M : Type 1} → statement M
 inverse-36-spec =
     tie.close
     (tie.spec
+    slice-aggregate-sums-block
+    slice-aggregate-sums-block-2
+    sums-block-requires
     slice-aggregate-inverse-block
     slice-aggregate-inverse-block-2
     slice-aggregate-inverse-block-3
-    slice-aggregate-inverse-block-4
     inverse-block-requires
     same-length
     returns)

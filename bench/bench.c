@@ -1,0 +1,464 @@
+/* Times the library beside plain C of the same definitions, in one run: each round gives every contender one short batch, and the least time of
+ * a batch counts. Prints Markdown. With the word 'count' it runs one batch of each for callgrind, which counts instructions. */
+#define _POSIX_C_SOURCE 200809L
+#include "../include/dapplescree.h"
+#include "plain.h"
+#include <math.h>
+#include <stdio.h>
+#include <stdlib.h>
+#include <string.h>
+#include <time.h>
+#ifdef HAVE_CALLGRIND
+#include <valgrind/callgrind.h>
+#else
+#define CALLGRIND_ZERO_STATS
+#define CALLGRIND_DUMP_STATS_AT(text)
+#endif
+#ifdef HAVE_FFTW
+#include <fftw3.h>
+#endif
+#ifdef HAVE_AVTX
+#include <libavutil/tx.h>
+#endif
+
+enum { LONGEST = 4096, LENGTHS = 4 };
+static const size_t lengths[LENGTHS] = {12, 24, 36, 72};
+/* blocks of a batch, for some tens of microseconds at each length */
+static const size_t batches[LENGTHS] = {512, 256, 128, 64};
+
+/* One recording of random samples, its coefficients by direct analysis at the length at hand, and room for every result. */
+static int16_t recording[(LONGEST + 1) * 36];
+static int32_t all_spectra[LENGTHS][LONGEST * 36];
+static int32_t *spectra;
+static int32_t coefficients[LONGEST * 36];
+static int16_t sound[LONGEST * 36];
+static int64_t state[DAPPLESCREE_STATE];
+static int64_t tail[36];
+
+static uint32_t refused;
+
+static void library_direct(size_t n, size_t blocks)
+{
+    for (size_t b = 0; b < blocks; b++)
+        refused |= dapplescree_analyse_direct(n, recording + b * (n / 2), n, coefficients + b * (n / 2), n / 2);
+}
+
+static void library_short(size_t n, size_t blocks)
+{
+    for (size_t b = 0; b < blocks; b++)
+        refused |= dapplescree_analyse_short(n, recording + b * (n / 2), n, coefficients + b * (n / 2), n / 2);
+}
+
+static void library_recording_direct(size_t n, size_t blocks)
+{
+    refused |= dapplescree_analyse_recording_direct(n, blocks, recording, (blocks + 1) * (n / 2), coefficients, blocks * (n / 2));
+}
+
+static void library_recording_short(size_t n, size_t blocks)
+{
+    refused |= dapplescree_analyse_recording_short(n, blocks, recording, (blocks + 1) * (n / 2), coefficients, blocks * (n / 2));
+}
+
+static void library_step(size_t n, size_t blocks)
+{
+    refused |= dapplescree_stream_fresh(n, state, DAPPLESCREE_STATE);
+    for (size_t b = 0; b < blocks; b++)
+        refused |= dapplescree_stream_step(state, DAPPLESCREE_STATE, spectra + b * (n / 2), n / 2, sound + b * (n / 2), n / 2);
+}
+
+static void library_synthesis(size_t n, size_t blocks)
+{
+    refused |= dapplescree_synthesise_recording(n, blocks, spectra, blocks * (n / 2), sound, blocks * (n / 2));
+}
+
+#define PLAIN_ANALYSIS(call)                                                  \
+    static void run_##call(size_t n, size_t blocks)                           \
+    {                                                                         \
+        for (size_t b = 0; b < blocks; b++)                                   \
+            call(n, recording + b * (n / 2), coefficients + b * (n / 2));     \
+    }
+
+#define PLAIN_STEP(call)                                                      \
+    static void run_##call(size_t n, size_t blocks)                           \
+    {                                                                         \
+        memset(tail, 0, sizeof tail);                                         \
+        for (size_t b = 0; b < blocks; b++)                                   \
+            call(n, tail, spectra + b * (n / 2), sound + b * (n / 2));        \
+    }
+
+PLAIN_ANALYSIS(plain_o3_analyse_direct)
+PLAIN_ANALYSIS(plain_o3_analyse_folded)
+PLAIN_ANALYSIS(plain_native_analyse_direct)
+PLAIN_ANALYSIS(plain_native_analyse_folded)
+PLAIN_STEP(plain_o3_step_direct)
+PLAIN_STEP(plain_o3_step_folded)
+PLAIN_STEP(plain_native_step_direct)
+PLAIN_STEP(plain_native_step_folded)
+
+/* Floating point, for scale only: window, transform and, in synthesis, overlap and rounding to samples. */
+static float windows[LENGTHS][72], *window;
+
+#if defined HAVE_FFTW || defined HAVE_AVTX
+static float float_tail[36];
+
+static int16_t float_sample(float z)
+{
+    z = z < -32768 ? -32768 : z > 32767 ? 32767 : z;
+    return (int16_t)lrintf(z);
+}
+#endif
+
+#ifdef HAVE_FFTW
+static fftwf_plan plans[LENGTHS], plan;
+static float dct_in[36] __attribute__((aligned(64))), dct_out[36] __attribute__((aligned(64)));
+
+static void fftw_analysis(size_t n, size_t blocks)
+{
+    size_t m = n / 2, h = m / 2;
+    for (size_t b = 0; b < blocks; b++) {
+        const int16_t *x = recording + b * m;
+        for (size_t j = 0; j < h; j++)
+            dct_in[j] = -window[3 * h - 1 - j] * x[3 * h - 1 - j] - window[3 * h + j] * x[3 * h + j];
+        for (size_t j = h; j < m; j++)
+            dct_in[j] = window[j - h] * x[j - h] - window[3 * h - 1 - j] * x[3 * h - 1 - j];
+        fftwf_execute(plan);
+        /* REDFT11 doubles its sums */
+        for (size_t k = 0; k < m; k++)
+            coefficients[b * m + k] = (int32_t)lrintf(32 * dct_out[k]);
+    }
+}
+
+static void fftw_synthesis(size_t n, size_t blocks)
+{
+    size_t m = n / 2, h = m / 2;
+    float scale = 1 / (32.0f * (float)n);
+    memset(float_tail, 0, sizeof float_tail);
+    for (size_t b = 0; b < blocks; b++) {
+        for (size_t k = 0; k < m; k++)
+            dct_in[k] = scale * (float)spectra[b * m + k];
+        fftwf_execute(plan);
+        for (size_t i = 0; i < h; i++)
+            sound[b * m + i] = float_sample(float_tail[i] + window[i] * dct_out[h + i]);
+        for (size_t i = h; i < m; i++)
+            sound[b * m + i] = float_sample(float_tail[i] - window[i] * dct_out[3 * h - 1 - i]);
+        for (size_t i = 0; i < h; i++)
+            float_tail[i] = -window[m + i] * dct_out[h - 1 - i];
+        for (size_t i = h; i < m; i++)
+            float_tail[i] = -window[m + i] * dct_out[i - h];
+    }
+}
+#endif
+
+#ifdef HAVE_AVTX
+static AVTXContext *forwards[LENGTHS], *inverses[LENGTHS], *forward, *inverse;
+static av_tx_fn forward_txs[LENGTHS], inverse_txs[LENGTHS], forward_tx, inverse_tx;
+static float tx_in[72] __attribute__((aligned(64))), tx_out[72] __attribute__((aligned(64)));
+static float tx_sign;
+
+static void avtx_init(int l)
+{
+    float scale = 1;
+    size_t m = lengths[l] / 2;
+    if (av_tx_init(&forwards[l], &forward_txs[l], AV_TX_FLOAT_MDCT, 0, (int)m, &scale, 0) < 0
+        || av_tx_init(&inverses[l], &inverse_txs[l], AV_TX_FLOAT_MDCT, 1, (int)m, &scale, 0) < 0) {
+        fprintf(stderr, "bench: FFmpeg does not offer N = %zu\n", 2 * m);
+        exit(1);
+    }
+    /* versions differ in the sign of the inverse: cosine 0 is near -1 at place 3M/2 - 1 */
+    memset(tx_in, 0, sizeof tx_in);
+    tx_in[0] = 1;
+    inverse_txs[l](inverses[l], tx_out, tx_in, sizeof(float));
+    tx_sign = tx_out[m - 1] < 0 ? 1 : -1;
+}
+
+static void avtx_analysis(size_t n, size_t blocks)
+{
+    size_t m = n / 2;
+    for (size_t b = 0; b < blocks; b++) {
+        for (size_t i = 0; i < n; i++)
+            tx_in[i] = window[i] * recording[b * m + i];
+        forward_tx(forward, tx_out, tx_in, sizeof(float));
+        for (size_t k = 0; k < m; k++)
+            coefficients[b * m + k] = (int32_t)lrintf(64 * tx_out[k]);
+    }
+}
+
+/* The inverse gives places M/2 to 3M/2 - 1; the others follow by symmetry. */
+static void avtx_synthesis(size_t n, size_t blocks)
+{
+    size_t m = n / 2, h = m / 2;
+    float scale = tx_sign / (16.0f * (float)n);
+    memset(float_tail, 0, sizeof float_tail);
+    for (size_t b = 0; b < blocks; b++) {
+        for (size_t k = 0; k < m; k++)
+            tx_in[k] = scale * (float)spectra[b * m + k];
+        inverse_tx(inverse, tx_out, tx_in, sizeof(float));
+        for (size_t i = 0; i < h; i++)
+            sound[b * m + i] = float_sample(float_tail[i] - window[i] * tx_out[h - 1 - i]);
+        for (size_t i = h; i < m; i++)
+            sound[b * m + i] = float_sample(float_tail[i] + window[i] * tx_out[i - h]);
+        for (size_t i = 0; i < h; i++)
+            float_tail[i] = window[m + i] * tx_out[h + i];
+        for (size_t i = h; i < m; i++)
+            float_tail[i] = window[m + i] * tx_out[3 * h - 1 - i];
+    }
+}
+#endif
+
+/* What a contender's result is held to before it is timed. */
+enum result { COEFFICIENTS, NEAR_COEFFICIENTS, FLOAT_COEFFICIENTS, SOUND, FLOAT_SOUND };
+
+struct contender {
+    const char *name;
+    void (*run)(size_t n, size_t blocks);
+    enum result result;
+    int native;
+    double ns[LENGTHS];
+};
+
+static struct contender contenders[] = {
+    {"library, direct", library_direct, COEFFICIENTS, 0, {0}},
+    {"library, short route", library_short, NEAR_COEFFICIENTS, 0, {0}},
+    {"library, recording, direct", library_recording_direct, COEFFICIENTS, 0, {0}},
+    {"library, recording, short route", library_recording_short, NEAR_COEFFICIENTS, 0, {0}},
+    {"plain C, direct, -O3", run_plain_o3_analyse_direct, COEFFICIENTS, 0, {0}},
+    {"plain C, folded, -O3", run_plain_o3_analyse_folded, COEFFICIENTS, 0, {0}},
+    {"plain C, direct, -O3 -march=native", run_plain_native_analyse_direct, COEFFICIENTS, 1, {0}},
+    {"plain C, folded, -O3 -march=native", run_plain_native_analyse_folded, COEFFICIENTS, 1, {0}},
+#ifdef HAVE_FFTW
+    {"FFTW REDFT11 (float)", fftw_analysis, FLOAT_COEFFICIENTS, 0, {0}},
+#endif
+#ifdef HAVE_AVTX
+    {"FFmpeg av_tx MDCT (float)", avtx_analysis, FLOAT_COEFFICIENTS, 0, {0}},
+#endif
+    {"library, step", library_step, SOUND, 0, {0}},
+    {"library, recording, synthesis", library_synthesis, SOUND, 0, {0}},
+    {"plain C, step, direct, -O3", run_plain_o3_step_direct, SOUND, 0, {0}},
+    {"plain C, step, folded, -O3", run_plain_o3_step_folded, SOUND, 0, {0}},
+    {"plain C, step, direct, -O3 -march=native", run_plain_native_step_direct, SOUND, 1, {0}},
+    {"plain C, step, folded, -O3 -march=native", run_plain_native_step_folded, SOUND, 1, {0}},
+#ifdef HAVE_FFTW
+    {"FFTW REDFT11 (float), step", fftw_synthesis, FLOAT_SOUND, 0, {0}},
+#endif
+#ifdef HAVE_AVTX
+    {"FFmpeg av_tx MDCT (float), step", avtx_synthesis, FLOAT_SOUND, 0, {0}},
+#endif
+};
+
+enum { CONTENDERS = sizeof contenders / sizeof contenders[0] };
+
+static double seconds(clockid_t clock)
+{
+    struct timespec t;
+    clock_gettime(clock, &t);
+    return (double)t.tv_sec + (double)t.tv_nsec * 1e-9;
+}
+
+/* Makes what each length needs. */
+static void prepare(void)
+{
+    for (int l = 0; l < LENGTHS; l++) {
+        size_t n = lengths[l], m = n / 2;
+        for (size_t b = 0; b < LONGEST; b++)
+            plain_o3_analyse_direct(n, recording + b * m, all_spectra[l] + b * m);
+        for (size_t i = 0; i < n; i++)
+            windows[l][i] = (float)sin(3.141592653589793 * (double)(2 * i + 1) / (double)(2 * n));
+#ifdef HAVE_FFTW
+        plans[l] = fftwf_plan_r2r_1d((int)m, dct_in, dct_out, FFTW_REDFT11, FFTW_PATIENT);
+#endif
+#ifdef HAVE_AVTX
+        avtx_init(l);
+#endif
+    }
+}
+
+/* Turns to one length. */
+static void turn_to(int l)
+{
+    spectra = all_spectra[l];
+    window = windows[l];
+#ifdef HAVE_FFTW
+    plan = plans[l];
+#endif
+#ifdef HAVE_AVTX
+    forward = forwards[l];
+    inverse = inverses[l];
+    forward_tx = forward_txs[l];
+    inverse_tx = inverse_txs[l];
+#endif
+}
+
+/* Runs a contender's batch once and holds its result to that of plain C. */
+static void verify(const struct contender *c, int l)
+{
+    static int16_t expected[LONGEST * 36];
+    size_t n = lengths[l], m = n / 2, blocks = batches[l];
+    int wrong = 0;
+    memset(tail, 0, sizeof tail);
+    for (size_t b = 0; b < blocks; b++)
+        plain_o3_step_direct(n, tail, spectra + b * m, expected + b * m);
+    memset(coefficients, 0x55, sizeof coefficients);
+    memset(sound, 0x55, sizeof sound);
+    refused = 0;
+    c->run(n, blocks);
+    for (size_t i = 0; i < blocks * m; i++) {
+        long apart = labs((long)coefficients[i] - spectra[i]);
+        long off = labs((long)sound[i] - expected[i]);
+        switch (c->result) {
+        case COEFFICIENTS: wrong |= apart != 0; break;
+        case NEAR_COEFFICIENTS: wrong |= apart > 16; break;
+        case FLOAT_COEFFICIENTS: wrong |= apart > 64; break;
+        case SOUND: wrong |= off != 0; break;
+        case FLOAT_SOUND: wrong |= off > 1; break;
+        }
+    }
+    if (wrong || refused) {
+        fprintf(stderr, "bench: %s gives another result at N = %zu\n", c->name, n);
+        exit(1);
+    }
+}
+
+static double ratio(const char *a, const char *b, int l)
+{
+    double x = 0, y = 0;
+    for (int c = 0; c < CONTENDERS; c++) {
+        if (!strcmp(contenders[c].name, a))
+            x = contenders[c].ns[l];
+        if (!strcmp(contenders[c].name, b))
+            y = contenders[c].ns[l];
+    }
+    return x / y;
+}
+
+static void print_ratio(const char *a, const char *b)
+{
+    printf("| %s ÷ %s |", a, b);
+    for (int l = 0; l < LENGTHS; l++)
+        printf(" %.2f |", ratio(a, b, l));
+    printf("\n");
+}
+
+/* The least time of a batch over many rounds, every contender at every length in each round. An untimed part of a batch goes before it, so that
+ * its tables are at hand. */
+static void time_all(int rounds)
+{
+    for (int r = -1; r < rounds; r++)
+        for (int l = 0; l < LENGTHS; l++) {
+            size_t n = lengths[l];
+            turn_to(l);
+            for (int c = 0; c < CONTENDERS; c++) {
+                if (r < 0) {
+                    verify(&contenders[c], l);
+                    continue;
+                }
+                contenders[c].run(n, batches[l] / 16);
+                double start = seconds(CLOCK_MONOTONIC);
+                contenders[c].run(n, batches[l]);
+                double spent = (seconds(CLOCK_MONOTONIC) - start) * 1e9 / (double)batches[l];
+                if (r == 0 || spent < contenders[c].ns[l])
+                    contenders[c].ns[l] = spent;
+            }
+        }
+    printf("| ns per block | N = 12 | N = 24 | N = 36 | N = 72 |\n|---|---:|---:|---:|---:|\n");
+    for (int c = 0; c < CONTENDERS; c++) {
+        printf("| %s |", contenders[c].name);
+        for (int l = 0; l < LENGTHS; l++)
+            printf(" %.0f |", contenders[c].ns[l]);
+        printf("\n");
+    }
+    printf("\n| ratio | N = 12 | N = 24 | N = 36 | N = 72 |\n|---|---:|---:|---:|---:|\n");
+    print_ratio("library, direct", "plain C, folded, -O3");
+    print_ratio("library, direct", "plain C, folded, -O3 -march=native");
+    print_ratio("library, direct", "plain C, direct, -O3");
+    print_ratio("library, short route", "library, direct");
+    print_ratio("library, recording, direct", "library, direct");
+    print_ratio("library, recording, short route", "library, short route");
+    print_ratio("library, step", "plain C, step, folded, -O3");
+    print_ratio("library, step", "plain C, step, folded, -O3 -march=native");
+    print_ratio("library, step", "plain C, step, direct, -O3");
+    print_ratio("library, recording, synthesis", "library, step");
+#ifdef HAVE_FFTW
+    print_ratio("library, direct", "FFTW REDFT11 (float)");
+    print_ratio("library, step", "FFTW REDFT11 (float), step");
+#endif
+#ifdef HAVE_AVTX
+    print_ratio("library, direct", "FFmpeg av_tx MDCT (float)");
+    print_ratio("library, step", "FFmpeg av_tx MDCT (float), step");
+#endif
+}
+
+/* A recording's cost per block as the recording grows. Long calls are interrupted now and then, so the processor's own time counts here. */
+static void time_recordings(int rounds)
+{
+    static const size_t blocks[] = {1, 4, 16, 64, 256, 1024, 4096};
+    enum { SIZES = sizeof blocks / sizeof blocks[0], CALLS = 3 };
+    void (*const calls[CALLS])(size_t, size_t) = {library_recording_direct, library_recording_short, library_synthesis};
+    const char *const names[CALLS] = {"direct", "short route", "synthesis"};
+    printf("\n| a recording, ns per block |");
+    for (int s = 0; s < SIZES; s++)
+        printf(" B = %zu |", blocks[s]);
+    printf("\n|---|");
+    for (int s = 0; s < SIZES; s++)
+        printf("---:|");
+    printf("\n");
+    for (int l = 0; l < LENGTHS; l++) {
+        size_t n = lengths[l];
+        double least[CALLS][SIZES];
+        turn_to(l);
+        for (int r = 0; r < rounds; r++)
+            for (int c = 0; c < CALLS; c++)
+                for (int s = 0; s < SIZES; s++) {
+                    /* short recordings are repeated, so that the clock's own cost is small */
+                    size_t repeats = blocks[s] < 512 ? 512 / blocks[s] : 1;
+                    double start = seconds(CLOCK_THREAD_CPUTIME_ID);
+                    for (size_t i = 0; i < repeats; i++)
+                        calls[c](n, blocks[s]);
+                    double spent = (seconds(CLOCK_THREAD_CPUTIME_ID) - start) * 1e9 / (double)(repeats * blocks[s]);
+                    if (r == 0 || spent < least[c][s])
+                        least[c][s] = spent;
+                }
+        for (int c = 0; c < CALLS; c++) {
+            printf("| N = %zu, %s |", n, names[c]);
+            for (int s = 0; s < SIZES; s++)
+                printf(" %.0f |", least[c][s]);
+            printf("\n");
+        }
+    }
+}
+
+/* One batch of each for callgrind, a dump after each. Code for the machine at hand is left out: valgrind may not know its instructions. */
+static void count_all(void)
+{
+    for (int l = 0; l < LENGTHS; l++) {
+        turn_to(l);
+        for (int c = 0; c < CONTENDERS; c++) {
+            char text[100];
+            if (contenders[c].native)
+                continue;
+            verify(&contenders[c], l);
+            snprintf(text, sizeof text, "%s;%d;%zu", contenders[c].name, l, batches[l]);
+            CALLGRIND_ZERO_STATS;
+            contenders[c].run(lengths[l], batches[l]);
+            CALLGRIND_DUMP_STATS_AT(text);
+        }
+    }
+}
+
+int main(int argc, char **argv)
+{
+    uint32_t z = 1;
+    for (size_t i = 0; i < sizeof recording / sizeof recording[0]; i++) {
+        z = z * 1664525u + 1013904223u;
+        recording[i] = (int16_t)(z >> 16);
+    }
+    plain_o3_init();
+    prepare();
+    if (argc > 1 && !strcmp(argv[1], "count")) {
+        count_all();
+        return 0;
+    }
+    plain_native_init();
+    time_all(1500);
+    time_recordings(60);
+    return refused != 0;
+}

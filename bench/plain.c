@@ -1,0 +1,182 @@
+/* Plain C of the whole-number definitions of document 01: direct, N × M sums, and folded by equation (41) of source 003. */
+#include "plain.h"
+#include <math.h>
+
+#ifndef VARIANT
+#define VARIANT plain_o3
+#endif
+#define JOIN(a, b) a##_##b
+#define NAMED(a, b) JOIN(a, b)
+#define PLAIN(name) NAMED(VARIANT, name)
+
+#define INLINE static inline __attribute__((always_inline))
+
+/* For each length, the window W(n), the kernel K(n,k) by rows of n and by rows of k, and the folded kernel F(j,k) = C(d(2j+1)(2k+1)), which
+ * is symmetric. */
+struct tables {
+    int32_t window[72];
+    int32_t kernel[72 * 36];
+    int32_t turned[36 * 72];
+    int32_t folded[36 * 36];
+};
+
+static struct tables tables_12, tables_24, tables_36, tables_72;
+
+static int32_t cosine(long t)
+{
+    t %= 288;
+    return (int32_t)lround(67108864 * cos(6.283185307179586 * (double)t / 288));
+}
+
+static void fill(struct tables *t, long n)
+{
+    long m = n / 2, d = 72 / n;
+    for (long i = 0; i < n; i++)
+        t->window[i] = cosine(d * (n - 2 * i - 1));
+    for (long i = 0; i < n; i++)
+        for (long k = 0; k < m; k++)
+            t->turned[k * n + i] = t->kernel[i * m + k] = cosine(d * (2 * i + 1 + m) * (2 * k + 1));
+    for (long j = 0; j < m; j++)
+        for (long k = 0; k < m; k++)
+            t->folded[j * m + k] = cosine(d * (2 * j + 1) * (2 * k + 1));
+}
+
+void PLAIN(init)(void)
+{
+    fill(&tables_12, 12);
+    fill(&tables_24, 24);
+    fill(&tables_36, 36);
+    fill(&tables_72, 72);
+}
+
+/* rnd(a / 2^k): a right shift of a negative number is arithmetic in gcc. */
+INLINE int64_t rnd(int64_t a, int k)
+{
+    return (a + ((int64_t)1 << (k - 1))) >> k;
+}
+
+/* rnd((a) / (n × 2^30)), clamped to a sample: the shift first, then a floored division by n. */
+INLINE int16_t sample(int64_t a, int64_t n)
+{
+    int64_t b = (a + (n << 29)) >> 30;
+    int64_t q = b / n;
+    q -= b % n < 0;
+    return (int16_t)(q < -32768 ? -32768 : q > 32767 ? 32767 : q);
+}
+
+INLINE void windowed(const struct tables *t, size_t n, const int16_t *x, int32_t *y)
+{
+    for (size_t i = 0; i < n; i++)
+        y[i] = (int32_t)rnd((int64_t)t->window[i] * x[i], 18);
+}
+
+/* s(c) = the sum over r of z(r) × rows(r,c). The order of the loops is the one that gcc makes faster code of: short sums one by one, long ones side
+ * by side. */
+INLINE void sums(const int32_t *rows, size_t count, size_t width, const int32_t *z, int64_t *s)
+{
+    if (count <= 12) {
+        for (size_t c = 0; c < width; c++) {
+            int64_t sum = 0;
+            for (size_t r = 0; r < count; r++)
+                sum += (int64_t)z[r] * rows[r * width + c];
+            s[c] = sum;
+        }
+    } else {
+        int64_t sum[72];
+        for (size_t c = 0; c < width; c++)
+            sum[c] = 0;
+        for (size_t r = 0; r < count; r++)
+            for (size_t c = 0; c < width; c++)
+                sum[c] += (int64_t)z[r] * rows[r * width + c];
+        for (size_t c = 0; c < width; c++)
+            s[c] = sum[c];
+    }
+}
+
+/* out(k) = rnd(S(k) / 2^28), S(k) the sum over i of z(i) × rows(i,k) */
+INLINE void spectrum(const int32_t *rows, size_t count, size_t m, const int32_t *z, int32_t *out)
+{
+    int64_t s[36];
+    sums(rows, count, m, z, s);
+    for (size_t k = 0; k < m; k++)
+        out[k] = (int32_t)rnd(s[k], 28);
+}
+
+INLINE void analyse_direct(const struct tables *t, size_t n, const int16_t *x, int32_t *out)
+{
+    int32_t y[72];
+    windowed(t, n, x, y);
+    spectrum(t->kernel, n, n / 2, y, out);
+}
+
+INLINE void analyse_folded(const struct tables *t, size_t n, const int16_t *x, int32_t *out)
+{
+    size_t m = n / 2;
+    int32_t y[72], z[36];
+    windowed(t, n, x, y);
+    for (size_t j = 0; j < m / 2; j++)
+        z[j] = -y[3 * m / 2 - 1 - j] - y[3 * m / 2 + j];
+    for (size_t j = m / 2; j < m; j++)
+        z[j] = y[j - m / 2] - y[3 * m / 2 - 1 - j];
+    spectrum(t->folded, m, m, z, out);
+}
+
+/* The hop and the new tail from the n sums over k of X(k) × K(n,k). */
+INLINE void joined(const struct tables *t, size_t n, const int64_t *s, int64_t *tail, int16_t *hop)
+{
+    size_t m = n / 2;
+    for (size_t i = 0; i < m; i++)
+        hop[i] = sample(tail[i] + t->window[i] * rnd(s[i], 26), (int64_t)n);
+    for (size_t i = 0; i < m; i++)
+        tail[i] = t->window[m + i] * rnd(s[m + i], 26);
+}
+
+INLINE void step_direct(const struct tables *t, size_t n, int64_t *tail, const int32_t *coefficients, int16_t *hop)
+{
+    int64_t s[72];
+    sums(t->turned, n / 2, n, coefficients, s);
+    joined(t, n, s, tail, hop);
+}
+
+INLINE void step_folded(const struct tables *t, size_t n, int64_t *tail, const int32_t *coefficients, int16_t *hop)
+{
+    size_t m = n / 2;
+    int64_t u[36], s[72];
+    sums(t->folded, m, m, coefficients, u);
+    for (size_t i = 0; i < m / 2; i++)
+        s[i] = u[m / 2 + i];
+    for (size_t i = m / 2; i < 3 * m / 2; i++)
+        s[i] = -u[3 * m / 2 - 1 - i];
+    for (size_t i = 3 * m / 2; i < n; i++)
+        s[i] = -u[i - 3 * m / 2];
+    joined(t, n, s, tail, hop);
+}
+
+/* One body for each length, so that the compiler knows every count. */
+#define BY_LENGTH(call, ...)                                            \
+    switch (n) {                                                        \
+    case 12: call(&tables_12, 12, __VA_ARGS__); break;                  \
+    case 24: call(&tables_24, 24, __VA_ARGS__); break;                  \
+    case 36: call(&tables_36, 36, __VA_ARGS__); break;                  \
+    case 72: call(&tables_72, 72, __VA_ARGS__); break;                  \
+    }
+
+void PLAIN(analyse_direct)(size_t n, const int16_t *x, int32_t *out)
+{
+    BY_LENGTH(analyse_direct, x, out)
+}
+
+void PLAIN(analyse_folded)(size_t n, const int16_t *x, int32_t *out)
+{
+    BY_LENGTH(analyse_folded, x, out)
+}
+
+void PLAIN(step_direct)(size_t n, int64_t *tail, const int32_t *coefficients, int16_t *hop)
+{
+    BY_LENGTH(step_direct, tail, coefficients, hop)
+}
+
+void PLAIN(step_folded)(size_t n, int64_t *tail, const int32_t *coefficients, int16_t *hop)
+{
+    BY_LENGTH(step_folded, tail, coefficients, hop)
+}

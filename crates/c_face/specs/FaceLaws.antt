@@ -1,0 +1,97 @@
+-- Laws of the calls for C: lists that a state is made of, and the numbers by their causes.
+use mathlib.Core.Path.{_≡_, refl, sym, ap, _∙_}
+use mathlib.Core.Bool.{Bool, true, false}
+use mathlib.Core.List.{List, [], _∷_, _++_, append-nil}
+use Prim.Native.Nat.{ℕ, _-_, _≤_}
+use native.Mathlib.Nat.{not-suc-le-zero}
+use native.Mathlib.Omega.{arith}
+use borrow.Author.Tests.{eq-eqb, ne-eqb}
+use borrow.Rule.Slice.PartMut.{putMid}
+use lib.Dec.{T, eqb}
+use lib.ListN.{length, length-drop, take, drop, set, replicate, drop-of-length-le}
+use lib.Seq.{ext-getD}
+use lib.IntN.{ℤ, pos}
+use Rattle.arithmetic.specs.Lists.{at, table}
+use Rattle.arithmetic.specs.ListLaws.{length-table, getD-table}
+use Rattle.cosine.specs.Kernels.{tabled}
+use Rattle.stream.specs.Synthesis as Stream
+use Rattle.stream.specs.Steps.{next, hop}
+use Rattle.filter_bank.specs.Streams as S
+use Rattle.c_face.specs.Face.{entries, streamIn, freshCode, freshState, stepCode, stepState, stepOut}
+
+-- a list is the table of its entries
+pub table-at : (xs : List ℤ) (m : ℕ) → length xs ≡ m → table m (at xs) ≡ xs
+table-at xs m e =
+    ext-getD (pos 0) (table m (at xs)) xs (length-table (at xs) m ∙ sym e)
+    (λ i h. getD-table (at xs) (pos 0) m i (omega (arith, length-table (at xs) m)))
+
+-- ys written behind entry 0
+pub put-rest : (xs ys : List ℤ) → putMid 1 (length xs - 1) xs ys ≡ take 1 xs ++ ys
+put-rest xs ys =
+    let e : drop (length xs - 1) (drop 1 xs) ≡ [] = drop-of-length-le (drop 1 xs) {i = length xs - 1} (omega (arith, length-drop 1 xs)) in
+    ap (λ (z : List ℤ). take 1 xs ++ z) (ap (λ (z : List ℤ). ys ++ z) e ∙ append-nil ys)
+
+-- v written to entry 0
+pub set-first : (xs ys : List ℤ) (v : ℤ) → 1 ≤ length xs → set (take 1 xs ++ ys) 0 v ≡ v ∷ ys
+set-first [] ys v h = absurd (not-suc-le-zero h)
+set-first (x ∷ xs) ys v h = refl
+
+-- ---- `fresh`: the number by its causes, and what follows from it
+module _ (N : ℕ) (state : List ℤ) where
+  pub fresh-2 : ¬ (length state ≡ entries) → (2 ≡ freshCode N state) × (state ≡ freshState N state)
+  unfolding freshCode freshState
+  fresh-2 a = (rw (ne-eqb (length state) entries a), rw (ne-eqb (length state) entries a))
+
+  -- the bank's answer is the call's
+  module _ (a : length state ≡ entries) where
+    pub fresh-code : (S.fresh N) .code ≡ freshCode N state
+    unfolding S.fresh freshCode
+    fresh-code = by-test (tabled N) refl
+      where
+        by-test : (b : Bool) → tabled N ≡ b → (S.fresh N) .code ≡ freshCode N state
+        by-test true e = rw (eq-eqb (length state) entries a, e)
+        by-test false e = rw (eq-eqb (length state) entries a, e)
+
+    pub fresh-kept : ¬ ((S.fresh N) .code ≡ 0) → state ≡ freshState N state
+    unfolding freshState
+    fresh-kept n = rw (sym fresh-code, ne-eqb ((S.fresh N) .code) 0 n)
+
+    pub fresh-tabled : (S.fresh N) .code ≡ 0 → T (tabled N)
+    unfolding S.fresh
+    fresh-tabled z = by-test (tabled N) refl
+      where
+        by-test : (b : Bool) → tabled N ≡ b → T (tabled N)
+        by-test true e = rw e tt
+        by-test false e = let h : _≡_ {A = ℕ} 1 0 = rw e at z in absurd (omega arith)
+
+    pub fresh-next : (S.fresh N) .code ≡ 0 → pos N ∷ (S.fresh N) .stream .tail ≡ freshState N state
+    unfolding freshState S.fresh Stream.fresh
+    fresh-next z = let e : tabled N ≡ true = true-of (fresh-tabled z) in rw (sym fresh-code, z, e)
+      where
+        true-of : {b : Bool} → T b → b ≡ true
+        true-of {b = true} t = refl
+        true-of {b = false} t = absurd t
+
+-- ---- `step`: the number by its causes, and what follows from it
+module _ (state x out : List ℤ) where
+  pub step-2 : ¬ (length state ≡ entries) → (2 ≡ stepCode state x out) × (state ≡ stepState state x out) × (out ≡ stepOut state x out)
+  unfolding stepCode stepState stepOut
+  step-2 a = (rw (ne-eqb (length state) entries a), rw (ne-eqb (length state) entries a), rw (ne-eqb (length state) entries a))
+
+  module _ (a : length state ≡ entries) where
+    -- the bank's answer is the call's
+    pub step-code : S.stepCode (streamIn state) x out ≡ stepCode state x out
+    unfolding stepCode
+    step-code = rw (eq-eqb (length state) entries a)
+
+    pub step-out : S.stepOut (streamIn state) x out ≡ stepOut state x out
+    unfolding stepOut
+    step-out = rw (eq-eqb (length state) entries a)
+
+    pub step-kept : (c : ℕ) → eqb c 0 ≡ false → c ≡ S.stepCode (streamIn state) x out → state ≡ stepState state x out
+    unfolding stepState
+    step-kept c n e = rw (sym step-code, sym e, n)
+
+    pub step-next : (c : ℕ) → c ≡ 0 → c ≡ S.stepCode (streamIn state) x out → take 1 state ++ (S.step (streamIn state) x out) .stream .tail ≡ stepState state x out
+    unfolding stepState S.step
+    step-next c z e = let n : S.stepCode (streamIn state) x out ≡ 0 = sym e ∙ z in rw (sym step-code, n)

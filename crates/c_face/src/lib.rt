@@ -1,0 +1,163 @@
+// The calls for C: a slice crosses as a pointer and a length, a stream as a state, which is N and then the tail in one array.
+// No call has a requires: any numbers and any lengths may be handed in. include/dapplescree.h says the same in C's words.
+ghost use mathlib.Core.Path.{_≡_};
+ghost use lib.ListN.{length};
+ghost use Rattle.recording.specs.declared.Route.the-variants.{Direct, Short};
+ghost use Rattle.stream.specs.Synthesis.{storage};
+ghost use Rattle.filter_bank.specs.Analysis.{analyseCode, analyseOut};
+ghost use Rattle.filter_bank.specs.Recordings.{recordedCode, recordedOut, playedCode, playedOut};
+ghost use Rattle.c_face.specs.Face.{entries, lengthIn, streamIn, freshCode, freshState, stepCode, stepState, stepOut};
+use recording::Route;
+use stream::Stream;
+
+// Entries of a state.
+const ENTRIES: usize = 1 + stream::STORAGE;
+
+// One block by the direct route: `filter_bank::analyse`.
+#[no_mangle]
+pub extern "C" fn dapplescree_analyse_direct(
+    n: usize,
+    samples: &[i16],
+    coefficients: &mut [i32],
+) -> u32
+    ensures { λ r. ⌜ (r ≡ analyseCode Direct n (now (samples .entry)) (now (coefficients .entry))) × (now (coefficients .exit) ≡ analyseOut Direct n (now (samples .entry)) (now (coefficients .entry))) ⌝ }
+{
+    filter_bank::analyse(Route::Direct, n, samples, coefficients)
+}
+
+// One block by the short route.
+#[no_mangle]
+pub extern "C" fn dapplescree_analyse_short(
+    n: usize,
+    samples: &[i16],
+    coefficients: &mut [i32],
+) -> u32
+    ensures { λ r. ⌜ (r ≡ analyseCode Short n (now (samples .entry)) (now (coefficients .entry))) × (now (coefficients .exit) ≡ analyseOut Short n (now (samples .entry)) (now (coefficients .entry))) ⌝ }
+{
+    filter_bank::analyse(Route::Short, n, samples, coefficients)
+}
+
+// The length that entry 0 names: a negative one names none, as 0 does.
+fn length_in(entry: i64) -> usize
+    ensures { λ r. ⌜ r ≡ lengthIn entry ⌝ }
+{
+    if entry < 0 {
+        return 0;
+    }
+    entry as usize
+}
+
+// A tail, read from the part of a state behind entry 0.
+fn tail_in(part: &[i64]) -> [i64; stream::STORAGE]
+    requires { ⌜ length (now part) ≡ storage ⌝ }
+    ensures { λ r. ⌜ r ≡ now (part .entry) ⌝ }
+{
+    let mut tail = [0i64; stream::STORAGE];
+    for i in 0..stream::STORAGE {
+        tail[i] = part[i];
+    }
+    tail
+}
+
+// A tail, written to that part.
+fn write_tail(tail: [i64; stream::STORAGE], part: &mut [i64])
+    requires { ⌜ length (now part) ≡ storage ⌝ }
+    ensures { λ _. ⌜ now (part .exit) ≡ tail ⌝ }
+{
+    for i in 0..stream::STORAGE {
+        part[i] = tail[i];
+    }
+}
+
+// The stream that a state holds.
+fn stream_in(state: &[i64]) -> Stream
+    requires { ⌜ length (now state) ≡ entries ⌝ }
+    ensures { λ r. ⌜ r ≡ streamIn (now (state .entry)) ⌝ }
+{
+    let tail = tail_in(&state[1..]);
+    Stream {
+        n: length_in(state[0]),
+        tail: tail,
+    }
+}
+
+// A fresh stream, as a state. 2: the state's length is another. 1: n is not tabled. Refused, the state is left alone.
+#[no_mangle]
+pub extern "C" fn dapplescree_stream_fresh(n: usize, state: &mut [i64]) -> u32
+    ensures { λ r. ⌜ (r ≡ freshCode n (now (state .entry))) × (now (state .exit) ≡ freshState n (now (state .entry))) ⌝ }
+{
+    if state.len() != ENTRIES {
+        return 2;
+    }
+    let made = filter_bank::fresh(n);
+    if made.code != 0 {
+        return made.code;
+    }
+    let fresh = made.stream;
+    let tail = fresh.tail;
+    write_tail(tail, &mut state[1..]);
+    state[0] = n as i64;
+    0
+}
+
+// One step on the stream that a state holds: `filter_bank::step`. 2: the state's length is another, before every other cause. Refused,
+// the state and the hop are left alone; taken, entry 0 stays and the tail is the new one.
+#[no_mangle]
+pub extern "C" fn dapplescree_stream_step(
+    state: &mut [i64],
+    coefficients: &[i32],
+    hop: &mut [i16],
+) -> u32
+    ensures { λ r. ⌜ (r ≡ stepCode (now (state .entry)) (now (coefficients .entry)) (now (hop .entry))) × (now (state .exit) ≡ stepState (now (state .entry)) (now (coefficients .entry)) (now (hop .entry))) × (now (hop .exit) ≡ stepOut (now (state .entry)) (now (coefficients .entry)) (now (hop .entry))) ⌝ }
+{
+    if state.len() != ENTRIES {
+        return 2;
+    }
+    let stepped = filter_bank::step(stream_in(state), coefficients, hop);
+    if stepped.code != 0 {
+        return stepped.code;
+    }
+    let next = stepped.stream;
+    let tail = next.tail;
+    write_tail(tail, &mut state[1..]);
+    0
+}
+
+// A whole recording by the direct route: `filter_bank::analyse_recording`.
+#[no_mangle]
+pub extern "C" fn dapplescree_analyse_recording_direct(
+    n: usize,
+    blocks: usize,
+    samples: &[i16],
+    coefficients: &mut [i32],
+) -> u32
+    ensures { λ r. ⌜ (r ≡ recordedCode Direct n blocks (now (samples .entry)) (now (coefficients .entry))) × (now (coefficients .exit) ≡ recordedOut Direct n blocks (now (samples .entry)) (now (coefficients .entry))) ⌝ }
+{
+    filter_bank::analyse_recording(Route::Direct, n, blocks, samples, coefficients)
+}
+
+// A whole recording by the short route.
+#[no_mangle]
+pub extern "C" fn dapplescree_analyse_recording_short(
+    n: usize,
+    blocks: usize,
+    samples: &[i16],
+    coefficients: &mut [i32],
+) -> u32
+    ensures { λ r. ⌜ (r ≡ recordedCode Short n blocks (now (samples .entry)) (now (coefficients .entry))) × (now (coefficients .exit) ≡ recordedOut Short n blocks (now (samples .entry)) (now (coefficients .entry))) ⌝ }
+{
+    filter_bank::analyse_recording(Route::Short, n, blocks, samples, coefficients)
+}
+
+// A whole recording's samples: `filter_bank::synthesise_recording`.
+#[no_mangle]
+pub extern "C" fn dapplescree_synthesise_recording(
+    n: usize,
+    blocks: usize,
+    coefficients: &[i32],
+    samples: &mut [i16],
+) -> u32
+    ensures { λ r. ⌜ (r ≡ playedCode n blocks (now (coefficients .entry)) (now (samples .entry))) × (now (samples .exit) ≡ playedOut n blocks (now (coefficients .entry)) (now (samples .entry))) ⌝ }
+{
+    filter_bank::synthesise_recording(n, blocks, coefficients, samples)
+}

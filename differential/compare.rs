@@ -1,0 +1,448 @@
+//! The library held against the reference, call by call.
+use crate::inputs::*;
+use crate::library;
+use crate::reference::{tail_limit, Bank, Route, BLOCKS, COEFFICIENT_LIMIT, LENGTHS, STATE};
+use std::fmt::Debug;
+
+const MARGIN: usize = 40;
+
+/// A buffer that is lent to the library between two margins that no call may touch.
+struct Lent<T> {
+    cells: Vec<T>,
+    before: Vec<T>,
+}
+
+impl<T: Copy + PartialEq> Lent<T> {
+    fn new(content: &[T], margin: T) -> Lent<T> {
+        let mut cells = vec![margin; MARGIN];
+        cells.extend_from_slice(content);
+        cells.extend(vec![margin; MARGIN]);
+        Lent { before: cells.clone(), cells }
+    }
+
+    fn part(&mut self) -> &mut [T] {
+        let end = self.cells.len() - MARGIN;
+        &mut self.cells[MARGIN..end]
+    }
+
+    fn margins_kept(&self) -> bool {
+        let end = self.cells.len() - MARGIN;
+        self.cells[..MARGIN] == self.before[..MARGIN] && self.cells[end..] == self.before[end..]
+    }
+
+    fn kept(&self) -> bool {
+        self.cells == self.before
+    }
+}
+
+struct Compare {
+    bank: Bank,
+    random: Random,
+    calls: u64,
+}
+
+/// Prints what was handed in and what came back, and ends the program.
+fn mismatch(call: &str, input: &dyn Debug, library: &dyn Debug, reference: &dyn Debug) -> ! {
+    println!("differential: {call} answers otherwise than document 01\n  input:     {input:?}\n  library:   {library:?}\n  reference: {reference:?}");
+    std::process::exit(1);
+}
+
+impl Compare {
+    fn rubbish<T>(&mut self, length: usize, cut: fn(u64) -> T) -> Vec<T> {
+        (0..length).map(|_| cut(self.random.bits())).collect()
+    }
+
+    fn rubbish16(&mut self, length: usize) -> Vec<i16> {
+        self.rubbish(length, |z| z as i16)
+    }
+
+    fn rubbish32(&mut self, length: usize) -> Vec<i32> {
+        self.rubbish(length, |z| z as i32)
+    }
+
+    /// One call with an input and an output buffer: the same number and the same content, and nothing else touched.
+    fn call<I: Copy + PartialEq + Debug + Default, O: Copy + PartialEq + Debug + Default>(
+        &mut self,
+        name: &str,
+        numbers: &dyn Debug,
+        input: &[I],
+        output: Vec<O>,
+        library: impl FnOnce(&[I], &mut [O]) -> u32,
+        reference: impl FnOnce(&Bank, &[I], &mut [O]) -> u32,
+    ) -> (u32, Vec<O>) {
+        self.calls += 1;
+        let mut lent_in = Lent::new(input, I::default());
+        let mut lent_out = Lent::new(&output, O::default());
+        let mut expected = output.clone();
+        let number = library(lent_in.part(), lent_out.part());
+        let told = (number, lent_out.part().to_vec());
+        let due = (reference(&self.bank, input, &mut expected), expected);
+        if told != due {
+            mismatch(name, &(numbers, input, output), &told, &due);
+        }
+        if !lent_in.kept() || !lent_out.margins_kept() {
+            mismatch(name, &(numbers, input, output), &"wrote beside its output", &due);
+        }
+        told
+    }
+
+    fn analyse(&mut self, route: Route, n: usize, x: &[i16], length: usize) -> (u32, Vec<i32>) {
+        let output = self.rubbish32(length);
+        let library = |x: &[i16], out: &mut [i32]| library::analyse(route, n, x, out);
+        self.call("analyse", &(route, n), x, output, library, |bank, x, out| bank.analyse(route, n, x, out))
+    }
+
+    fn analyse_recording(&mut self, route: Route, n: usize, blocks: usize, x: &[i16], length: usize) -> (u32, Vec<i32>) {
+        let output = self.rubbish32(length);
+        let library = |x: &[i16], out: &mut [i32]| library::analyse_recording(route, n, blocks, x, out);
+        self.call("analyse_recording", &(route, n, blocks), x, output, library, |bank, x, out| {
+            bank.analyse_recording(route, n, blocks, x, out)
+        })
+    }
+
+    fn synthesise_recording(&mut self, n: usize, blocks: usize, x: &[i32], length: usize) -> (u32, Vec<i16>) {
+        let output = self.rubbish16(length);
+        let library = |x: &[i32], out: &mut [i16]| library::synthesise_recording(n, blocks, x, out);
+        self.call("synthesise_recording", &(n, blocks), x, output, library, |bank, x, out| {
+            bank.synthesise_recording(n, blocks, x, out)
+        })
+    }
+
+    fn stream_fresh(&mut self, n: usize, state: Vec<i64>) -> (u32, Vec<i64>) {
+        let library = |_: &[u8], out: &mut [i64]| library::stream_fresh(n, out);
+        self.call("stream_fresh", &n, &[], state, library, |bank, _, out| bank.stream_fresh(n, out))
+    }
+
+    /// One step on a state, which then holds what the library left.
+    fn stream_step(&mut self, state: &mut Vec<i64>, x: &[i32], length: usize) -> (u32, Vec<i16>) {
+        let output = self.rubbish16(length);
+        let before = state.clone();
+        let mut lent = Lent::new(&before, 0);
+        let mut expected = before.clone();
+        let library = |x: &[i32], out: &mut [i16]| library::stream_step(lent.part(), x, out);
+        let told = self.call("stream_step", &before, x, output, library, |bank, x, out| bank.stream_step(&mut expected, x, out));
+        if lent.part() != expected || !lent.margins_kept() {
+            mismatch("stream_step", &(&before, x, length), &(told.0, lent.part()), &(told.0, expected));
+        }
+        *state = expected;
+        told
+    }
+
+    fn fresh_state(&mut self, n: usize) -> Vec<i64> {
+        let rubbish = self.rubbish(STATE, |z| z as i64);
+        self.stream_fresh(n, rubbish).1
+    }
+
+    fn some_n(&mut self, n: usize) -> usize {
+        if self.random.one_in(8) {
+            self.random.pick(&WRONG_N)
+        } else {
+            n
+        }
+    }
+
+    fn some_length(&mut self, length: usize) -> usize {
+        if self.random.one_in(6) {
+            wrong_length(&mut self.random, length)
+        } else {
+            length
+        }
+    }
+
+    fn some_blocks(&mut self, blocks: usize) -> usize {
+        if self.random.one_in(8) {
+            self.random.pick(&[0, blocks + 1, blocks.wrapping_sub(1), BLOCKS + 1, (1 << 32) + blocks, 1 << 62, 1 << 63, usize::MAX])
+        } else {
+            blocks
+        }
+    }
+
+    /// Coefficients, now and then with one beyond its limit.
+    fn some_coefficients(&mut self, count: usize) -> Vec<i32> {
+        let mut x = coefficients(&mut self.random, count);
+        if count > 0 && self.random.one_in(6) {
+            let at = self.random.pick(&[0, count - 1, count / 2]);
+            x[at] = self.random.pick(&BEYOND);
+        }
+        x
+    }
+
+    fn blocks(&mut self, n: usize) {
+        let m = n / 2;
+        for x in special_blocks(&self.bank, n) {
+            for route in ROUTES {
+                self.analyse(route, n, &x, m);
+            }
+        }
+        for route in ROUTES {
+            for x in half_blocks(&self.bank, &mut self.random, route, n) {
+                self.analyse(route, n, &x, m);
+            }
+        }
+        for x in split_half_blocks(&self.bank, &mut self.random, n) {
+            self.analyse(Route::Short, n, &x, m);
+        }
+        for _ in 0..4000 {
+            for route in ROUTES {
+                let (named, count, length) = (self.some_n(n), self.some_length(n), self.some_length(m));
+                let x = samples(&mut self.random, count);
+                self.analyse(route, named, &x, length);
+            }
+        }
+    }
+
+    fn fresh(&mut self) {
+        for n in (0..300).chain(WRONG_N) {
+            for length in [STATE, 0, 1, STATE - 1, STATE + 1, 2 * STATE] {
+                let state = self.rubbish(length, |z| z as i64);
+                self.stream_fresh(n, state);
+            }
+        }
+    }
+
+    fn steps(&mut self, n: usize) {
+        let m = n / 2;
+        // every special set of coefficients, after silence and after another one
+        let sets = special_coefficients(&self.bank, n);
+        let mut running = self.fresh_state(n);
+        for x in &sets {
+            let mut state = self.fresh_state(n);
+            self.stream_step(&mut state, x, m);
+            self.stream_step(&mut running, x, m);
+            // a tail that brings every sum to a half, or one below it, so that V shows whole
+            let v = self.bank.v(n, x);
+            for beside in [0, 1] {
+                let mut made = self.fresh_state(n);
+                for i in 0..m {
+                    made[1 + i] = n as i64 * (1 << 29) - beside - v[i];
+                }
+                self.stream_step(&mut made, x, m);
+            }
+        }
+        // long lists from a fresh stream, refused steps in between
+        for _ in 0..40 {
+            let mut state = self.fresh_state(n);
+            for _ in 0..25 {
+                let (count, length) = (self.some_length(m), self.some_length(m));
+                let x = self.some_coefficients(count);
+                self.stream_step(&mut state, &x, length);
+            }
+        }
+        // one coefficient at or beyond its limit, at every place
+        for k in 0..m {
+            for size in [COEFFICIENT_LIMIT, -COEFFICIENT_LIMIT].into_iter().chain(BEYOND) {
+                for length in [m, m - 1] {
+                    let mut x = coefficients(&mut self.random, m);
+                    x[k] = size;
+                    self.stream_step(&mut running, &x, length);
+                }
+            }
+        }
+    }
+
+    /// States that no call made.
+    fn forged(&mut self, n: usize) {
+        let m = n / 2;
+        let limit = tail_limit(n);
+        for first in (-100..=100).chain([i64::MIN, i64::MAX, (1 << 32) + n as i64, (1 << 62) + n as i64, i64::MIN + n as i64, -1 << 32]) {
+            let mut made = state(&mut self.random, n);
+            made[0] = first;
+            let count = self.some_length(m);
+            let length = self.some_length(m);
+            let x = self.some_coefficients(count);
+            self.stream_step(&mut made, &x, length);
+        }
+        let edges = [limit, -limit, limit + 1, -limit - 1, limit * 2, i64::MAX, i64::MIN, i64::MIN + 1];
+        for at in 0..STATE - 1 {
+            for edge in edges {
+                for _ in 0..3 {
+                    let mut made = state(&mut self.random, n);
+                    made[1 + at] = edge;
+                    let (count, length) = (self.some_length(m), self.some_length(m));
+                    let x = self.some_coefficients(count);
+                    self.stream_step(&mut made, &x, length);
+                }
+            }
+        }
+        for length in [0, 1, STATE - 1, STATE + 1] {
+            for _ in 0..8 {
+                let mut made = state(&mut self.random, n);
+                made.resize(length, 5);
+                let (count, out) = (self.some_length(m), self.some_length(m));
+                let x = self.some_coefficients(count);
+                self.stream_step(&mut made, &x, out);
+            }
+        }
+        // sums that meet an exact half, or lie one beside it, about zero and about both ends of a sample
+        let unit = n as i64 * (1 << 30);
+        for target in [-32770, -32769, -32768, -32767, -2, -1, 0, 1, 32765, 32766, 32767, 32768, 40000, -40000] {
+            for beside in [-1, 0, 1] {
+                let x: Vec<i32> = (0..m).map(|_| self.random.between(-300_000, 300_000) as i32).collect();
+                let v = self.bank.v(n, &x);
+                let mut made = state(&mut self.random, n);
+                for i in 0..m {
+                    let sum = target * unit + self.random.pick(&[0, unit / 2, -unit / 2]) + beside;
+                    made[1 + i] = sum - v[i];
+                }
+                self.stream_step(&mut made, &x, m);
+            }
+        }
+    }
+
+    fn recordings(&mut self, n: usize) {
+        let m = n / 2;
+        for blocks in [1, 2, 3, 4, 7, 20] {
+            for _ in 0..40 {
+                for route in ROUTES {
+                    let (wide, long) = (self.some_length((blocks + 1) * m), self.some_length(blocks * m));
+                    let x = samples(&mut self.random, wide);
+                    let (named_n, named) = (self.some_n(n), self.some_blocks(blocks));
+                    self.analyse_recording(route, named_n, named, &x, long);
+                }
+                let (wide, long) = (self.some_length(blocks * m), self.some_length(blocks * m));
+                let x = self.some_coefficients(wide);
+                let (named_n, named) = (self.some_n(n), self.some_blocks(blocks));
+                self.synthesise_recording(named_n, named, &x, long);
+            }
+        }
+        // a coefficient beyond its limit in the last place of all
+        for blocks in [1, 2, 3, 20] {
+            for beyond in BEYOND {
+                let mut x = coefficients(&mut self.random, blocks * m);
+                x[blocks * m - 1] = beyond;
+                self.synthesise_recording(n, blocks, &x, blocks * m);
+            }
+        }
+        // block counts whose products wrap round to the lengths handed in
+        for blocks in [0, 1 << 62, 1 << 63, (1 << 63) + 1, (1 << 62) + 3, usize::MAX] {
+            let (wide, long) = (blocks.wrapping_add(1).wrapping_mul(m), blocks.wrapping_mul(m));
+            if wide < 1000 && long < 1000 {
+                for route in ROUTES {
+                    let x = samples(&mut self.random, wide);
+                    self.analyse_recording(route, n, blocks, &x, long);
+                }
+                let x = coefficients(&mut self.random, long);
+                self.synthesise_recording(n, blocks, &x, long);
+            }
+        }
+        // the longest, and one block more
+        for blocks in [BLOCKS, BLOCKS + 1] {
+            let x = samples(&mut self.random, (blocks + 1) * m);
+            for route in ROUTES {
+                self.analyse_recording(route, n, blocks, &x, blocks * m);
+            }
+            let x = coefficients(&mut self.random, blocks * m);
+            self.synthesise_recording(n, blocks, &x, blocks * m);
+        }
+    }
+
+    /// Changes of a block's coefficients, each from -q to q. A place turns them all one way at that place of the block.
+    fn changed(&mut self, n: usize, x: &[i32], q: i64, kind: usize, place: usize) -> Vec<i32> {
+        let limit = i64::from(COEFFICIENT_LIMIT);
+        let mut changed = Vec::new();
+        for (k, &c) in x.iter().enumerate() {
+            let change = match kind {
+                0 => self.random.between(-q, q),
+                1 => self.random.pick(&[-q, q]),
+                2 => q,
+                _ if self.bank.k(n, place, k) < 0 => -q,
+                _ => q,
+            };
+            changed.push((i64::from(c) + change).clamp(-limit, limit) as i32);
+        }
+        changed
+    }
+
+    /// A recording there and back: block by block with refused steps in between, and by the calls over recordings.
+    fn round_trip(&mut self, n: usize, x: &[i16], q: i64) {
+        let m = n / 2;
+        let blocks = x.len() / m - 1;
+        let kind = self.random.below(4);
+        let target = self.random.below(m);
+        let style = self.random.below(3);
+        let mut routes = Vec::new();
+        let mut brought = Vec::new();
+        for b in 0..blocks {
+            let route = if style < 2 { ROUTES[style] } else { self.random.pick(&ROUTES) };
+            let (number, coefficients) = self.analyse(route, n, &x[b * m..b * m + n], m);
+            assert_eq!(number, 0);
+            // the hop in the middle is pushed from both of its blocks
+            let place = if b + 1 == (blocks + 1) / 2 { m + target } else { target };
+            brought.push(self.changed(n, &coefficients, q, kind, place));
+            routes.push(route);
+        }
+        let near = |b: usize, hop: &[i16], how: &str| {
+            let short = routes[b - 1] == Route::Short || routes[b] == Route::Short;
+            let bound = q + if short { 16 } else { 0 } + 8;
+            for i in 0..m {
+                let distance = (i64::from(hop[i]) - i64::from(x[b * m + i])).abs();
+                if 16 * distance > bound {
+                    let input = (n, q, b, i, x, &routes, &brought);
+                    mismatch(how, &input, &hop[i], &format_args!("{} within {bound}/16", x[b * m + i]));
+                }
+            }
+        };
+        let mut state = self.fresh_state(n);
+        for b in 0..blocks {
+            if self.random.one_in(3) {
+                let spoiled = self.random.below(2);
+                let mut x = coefficients(&mut self.random, m);
+                let mut length = m;
+                if spoiled == 0 {
+                    x[0] = self.random.pick(&BEYOND);
+                } else {
+                    length = wrong_length(&mut self.random, m);
+                }
+                let before = state.clone();
+                let (number, _) = self.stream_step(&mut state, &x, length);
+                assert!(number == 3 - spoiled as u32 && state == before);
+            }
+            let (number, hop) = self.stream_step(&mut state, &brought[b], m);
+            assert_eq!(number, 0);
+            if b > 0 {
+                near(b, &hop, "a list of steps");
+            }
+        }
+        let all = brought.concat();
+        let (number, sound) = self.synthesise_recording(n, blocks, &all, blocks * m);
+        assert_eq!(number, 0);
+        for b in 1..blocks {
+            near(b, &sound[b * m..b * m + m], "synthesise_recording");
+        }
+    }
+
+    fn round_trips(&mut self, n: usize) {
+        let m = n / 2;
+        // an impulse at every place of a joint, with the hops beside it
+        for at in 0..3 * m {
+            for size in [1, -1, 32767, -32768] {
+                let mut x = vec![0; 3 * m];
+                x[at] = size;
+                self.round_trip(n, &x, 7);
+            }
+        }
+        let sizes = [0, 1, 7, 8, 9, 15, 16, 23, 24, 40, 100, 1000, 65_536, 10_000_000, 300_000_000];
+        for q in sizes {
+            for hops in [2, 3, 4, 12] {
+                for _ in 0..5 {
+                    let x = samples(&mut self.random, hops * m);
+                    self.round_trip(n, &x, q);
+                }
+            }
+        }
+    }
+}
+
+/// The number of calls compared.
+pub fn run(bank: Bank, seed: u64) -> u64 {
+    let mut compare = Compare { bank, random: Random::new(seed), calls: 0 };
+    compare.fresh();
+    for n in LENGTHS {
+        compare.blocks(n);
+        compare.steps(n);
+        compare.forged(n);
+        compare.recordings(n);
+        compare.round_trips(n);
+    }
+    compare.calls
+}

@@ -1,0 +1,241 @@
+//! Samples, coefficients and streams to call with.
+use crate::reference::{tail_limit, Bank, Route, COEFFICIENT_LIMIT, STORAGE};
+use std::collections::HashMap;
+
+pub const ROUTES: [Route; 2] = [Route::Direct, Route::Short];
+
+/// Numbers by splitmix64.
+pub struct Random(u64);
+
+impl Random {
+    pub fn new(seed: u64) -> Random {
+        Random(seed)
+    }
+
+    pub fn bits(&mut self) -> u64 {
+        self.0 = self.0.wrapping_add(0x9e37_79b9_7f4a_7c15);
+        let z = (self.0 ^ (self.0 >> 30)).wrapping_mul(0xbf58_476d_1ce4_e5b9);
+        let z = (z ^ (z >> 27)).wrapping_mul(0x94d0_49bb_1331_11eb);
+        z ^ (z >> 31)
+    }
+
+    pub fn below(&mut self, count: usize) -> usize {
+        (u128::from(self.bits()) * count as u128 >> 64) as usize
+    }
+
+    /// A number from low to high, the ends included.
+    pub fn between(&mut self, low: i64, high: i64) -> i64 {
+        let count = (i128::from(high) - i128::from(low) + 1) as u128;
+        (i128::from(low) + (u128::from(self.bits()) * count >> 64) as i128) as i64
+    }
+
+    pub fn pick<T: Copy>(&mut self, from: &[T]) -> T {
+        from[self.below(from.len())]
+    }
+
+    pub fn one_in(&mut self, count: usize) -> bool {
+        self.below(count) == 0
+    }
+}
+
+/// Sizes that lie at an end or beside one.
+const IMPULSES: [i16; 10] = [1, -1, 2, -3, 127, -256, 16384, -16385, 32767, -32768];
+
+/// The sample of the largest size with the sign of z.
+pub fn loudest(z: i128) -> i16 {
+    if z < 0 {
+        i16::MIN
+    } else {
+        i16::MAX
+    }
+}
+
+/// Blocks of n samples with a reason of their own: silence, the loudest, one coefficient at its largest, impulses at every place, and the
+/// samples whose windowed value is an exact half.
+pub fn special_blocks(bank: &Bank, n: usize) -> Vec<Vec<i16>> {
+    let mut blocks = vec![vec![0; n], vec![i16::MIN; n], vec![i16::MAX; n], vec![1; n], vec![-1; n]];
+    for period in [1, 2, 3, n / 4, n / 2] {
+        let square: Vec<i16> = (0..n).map(|i| if i / period % 2 == 0 { i16::MIN } else { i16::MAX }).collect();
+        blocks.push(square.iter().map(|&s| !s).collect());
+        blocks.push(square);
+    }
+    for k in 0..n / 2 {
+        blocks.push((0..n).map(|i| loudest(bank.k(n, i, k))).collect());
+        blocks.push((0..n).map(|i| loudest(-bank.k(n, i, k))).collect());
+    }
+    let impulse = |i: usize, size: i16| {
+        let mut x = vec![0; n];
+        x[i] = size;
+        x
+    };
+    for i in 0..n {
+        blocks.extend(IMPULSES.map(|size| impulse(i, size)));
+        let half = |s: &i16| (bank.w(n, i) * i128::from(*s)).rem_euclid(1 << 18) == 1 << 17;
+        blocks.extend((i16::MIN..=i16::MAX).filter(half).take(12).map(|size| impulse(i, size)));
+    }
+    blocks
+}
+
+/// The three places of a block that the short route takes together.
+fn group(n: usize, i: usize) -> [usize; 3] {
+    [n / 3 - 1 - i, 2 * n / 3 - 1 - i, n - 1 - i]
+}
+
+/// Of two lists of sums, a few pairs whose sum modulo b is b/2.
+fn half_pairs(first: &[i128], second: &[i128], b: i128) -> Vec<(usize, usize)> {
+    let at: HashMap<i128, usize> = second.iter().enumerate().map(|(j, z)| (z.rem_euclid(b), j)).collect();
+    let partner = |(i, z): (usize, &i128)| at.get(&(b / 2 - z).rem_euclid(b)).map(|&j| (i, j));
+    first.iter().enumerate().filter_map(partner).take(6).collect()
+}
+
+/// Blocks of which some coefficient is rounded from an exact half. A sum is linear in the groups, so two lists of blocks with one group each are
+/// searched for pairs that meet.
+pub fn half_blocks(bank: &Bank, random: &mut Random, route: Route, n: usize) -> Vec<Vec<i16>> {
+    let mut list = |i: usize| -> Vec<Vec<i16>> {
+        let mut one = || {
+            let mut x = vec![0; n];
+            group(n, i).into_iter().for_each(|place| x[place] = random.bits() as i16);
+            x
+        };
+        (0..40_000).map(|_| one()).collect()
+    };
+    let lists = [list(0), list(n / 3 - 1)];
+    let sums = lists.each_ref().map(|list| list.iter().map(|x| bank.sums(route, n, x)).collect::<Vec<_>>());
+    let mut blocks = Vec::new();
+    for k in 0..n / 2 {
+        let column = |s: &[Vec<(i128, i128)>]| s.iter().map(|row| row[k].0).collect::<Vec<_>>();
+        for (i, j) in half_pairs(&column(&sums[0]), &column(&sums[1]), sums[0][0][k].1) {
+            blocks.push((0..n).map(|place| lists[0][i][place] + lists[1][j][place]).collect());
+        }
+    }
+    blocks
+}
+
+/// Blocks of which some rB or rC is rounded from an exact half, with other samples about it, so that it shows.
+pub fn split_half_blocks(bank: &Bank, random: &mut Random, n: usize) -> Vec<Vec<i16>> {
+    let mut blocks = Vec::new();
+    for i in 0..n / 3 {
+        let [first, second, _] = group(n, i);
+        let mut list = |place: usize| -> Vec<Vec<i16>> {
+            let mut one = || {
+                let mut x = vec![0; n];
+                x[place] = random.bits() as i16;
+                x
+            };
+            (0..12_000).map(|_| one()).collect()
+        };
+        let lists = [list(first), list(second)];
+        let tops = lists.each_ref().map(|list| list.iter().map(|x| bank.split_sums(n, x, i)).collect::<Vec<_>>());
+        for which in 0..2 {
+            let column = |s: &[[i128; 2]]| s.iter().map(|row| row[which]).collect::<Vec<_>>();
+            for (p, q) in half_pairs(&column(&tops[0]), &column(&tops[1]), 1 << 26) {
+                for _ in 0..8 {
+                    let mut x: Vec<i16> = (0..n).map(|_| random.between(-200, 200) as i16).collect();
+                    group(n, i).into_iter().for_each(|place| x[place] = lists[0][p][place] + lists[1][q][place]);
+                    blocks.push(x);
+                }
+            }
+        }
+    }
+    blocks
+}
+
+/// Samples of one kind: loudest, quiet, random, an impulse, or a mixture.
+pub fn samples(random: &mut Random, count: usize) -> Vec<i16> {
+    let top = random.pick(&[0, 1, 2, 10, 300, 8000, 32767]);
+    match random.below(5) {
+        0 => (0..count).map(|_| random.pick(&[i16::MIN, i16::MAX])).collect(),
+        1 => (0..count).map(|_| random.pick(&[i16::MIN, i16::MAX, 0, 1, -1])).collect(),
+        2 if count > 0 => {
+            let mut x = vec![0; count];
+            x[random.below(count)] = random.pick(&IMPULSES);
+            x
+        }
+        _ => (0..count).map(|_| random.between(-top - 1, top) as i16).collect(),
+    }
+}
+
+/// Sets of n/2 coefficients with a reason of their own: each end, U at its largest at every place, and one coefficient at powers of two, where
+/// U meets exact halves.
+pub fn special_coefficients(bank: &Bank, n: usize) -> Vec<Vec<i32>> {
+    let m = n / 2;
+    let mut sets = vec![vec![0; m], vec![COEFFICIENT_LIMIT; m], vec![-COEFFICIENT_LIMIT; m]];
+    for i in 0..n {
+        for size in [COEFFICIENT_LIMIT, -COEFFICIENT_LIMIT, 1 << 27, -1] {
+            sets.push((0..m).map(|k| if bank.k(n, i, k) < 0 { -size } else { size }).collect());
+        }
+    }
+    for k in 0..m {
+        for bit in 0..30 {
+            for factor in [1, -1, 3, -3] {
+                let size = factor * (1i64 << bit);
+                if size.abs() <= i64::from(COEFFICIENT_LIMIT) {
+                    let mut x = vec![0; m];
+                    x[k] = size as i32;
+                    sets.push(x);
+                }
+            }
+        }
+    }
+    sets
+}
+
+pub fn coefficients(random: &mut Random, count: usize) -> Vec<i32> {
+    let top = random.pick(&[0, 1, 64, 10_000, 2_000_000, 150_994_944, COEFFICIENT_LIMIT]);
+    match random.below(4) {
+        0 => (0..count).map(|_| random.pick(&[-top, top])).collect(),
+        1 => (0..count).map(|_| random.pick(&[-COEFFICIENT_LIMIT, 0, 1, COEFFICIENT_LIMIT])).collect(),
+        _ => (0..count).map(|_| random.between(-i64::from(top), i64::from(top)) as i32).collect(),
+    }
+}
+
+/// Coefficients beyond the limit, the nearest first.
+pub const BEYOND: [i32; 6] = [COEFFICIENT_LIMIT + 1, -COEFFICIENT_LIMIT - 1, COEFFICIENT_LIMIT * 2, -COEFFICIENT_LIMIT * 2, i32::MAX, i32::MIN];
+
+/// A length that differs from the stated one.
+pub fn wrong_length(random: &mut Random, length: usize) -> usize {
+    let others = [0, 1, length.saturating_sub(1), length + 1, length / 2, 2 * length, length + 36];
+    loop {
+        let other = random.pick(&others);
+        if other != length {
+            return other;
+        }
+    }
+}
+
+/// Block lengths that are not tabled, some equal to a tabled one in their low bits.
+pub const WRONG_N: [usize; 16] = [
+    0,
+    1,
+    6,
+    11,
+    13,
+    18,
+    48,
+    71,
+    73,
+    108,
+    216,
+    (1 << 32) + 12,
+    (1 << 40) + 36,
+    (1 << 63) + 72,
+    usize::MAX,
+    usize::MAX - 11,
+];
+
+/// A state as a stream may come to hold: N, a tail within its limit, and anything in storage from M on.
+pub fn state(random: &mut Random, n: usize) -> Vec<i64> {
+    let limit = tail_limit(n);
+    let top = random.pick(&[0, 1, n as i64 * (1 << 29), n as i64 * (1 << 45), limit]);
+    let mut state = vec![n as i64];
+    for i in 0..STORAGE {
+        state.push(if i >= n / 2 {
+            random.bits() as i64
+        } else if random.one_in(9) {
+            random.pick(&[limit, -limit])
+        } else {
+            random.between(-top, top)
+        });
+    }
+    state
+}

@@ -1,0 +1,70 @@
+//! The calls of include/dapplescree.h, each in a safe function over slices.
+use crate::reference::Route;
+
+extern "C" {
+    fn dapplescree_analyse_direct(n: usize, samples: *const i16, samples_length: usize, coefficients: *mut i32, coefficients_length: usize) -> u32;
+    fn dapplescree_analyse_short(n: usize, samples: *const i16, samples_length: usize, coefficients: *mut i32, coefficients_length: usize) -> u32;
+    fn dapplescree_stream_fresh(n: usize, state: *mut i64, state_length: usize) -> u32;
+    fn dapplescree_stream_step(
+        state: *mut i64,
+        state_length: usize,
+        coefficients: *const i32,
+        coefficients_length: usize,
+        hop: *mut i16,
+        hop_length: usize,
+    ) -> u32;
+    fn dapplescree_analyse_recording_direct(
+        n: usize,
+        blocks: usize,
+        samples: *const i16,
+        samples_length: usize,
+        coefficients: *mut i32,
+        coefficients_length: usize,
+    ) -> u32;
+    fn dapplescree_analyse_recording_short(
+        n: usize,
+        blocks: usize,
+        samples: *const i16,
+        samples_length: usize,
+        coefficients: *mut i32,
+        coefficients_length: usize,
+    ) -> u32;
+    fn dapplescree_synthesise_recording(
+        n: usize,
+        blocks: usize,
+        coefficients: *const i32,
+        coefficients_length: usize,
+        samples: *mut i16,
+        samples_length: usize,
+    ) -> u32;
+}
+
+// Each pointer and length below come from one slice, and slices lent by & and &mut do not overlap.
+
+pub fn analyse(route: Route, n: usize, x: &[i16], out: &mut [i32]) -> u32 {
+    let call = match route {
+        Route::Direct => dapplescree_analyse_direct,
+        Route::Short => dapplescree_analyse_short,
+    };
+    unsafe { call(n, x.as_ptr(), x.len(), out.as_mut_ptr(), out.len()) }
+}
+
+pub fn stream_fresh(n: usize, state: &mut [i64]) -> u32 {
+    unsafe { dapplescree_stream_fresh(n, state.as_mut_ptr(), state.len()) }
+}
+
+pub fn stream_step(state: &mut [i64], x: &[i32], out: &mut [i16]) -> u32 {
+    unsafe { dapplescree_stream_step(state.as_mut_ptr(), state.len(), x.as_ptr(), x.len(), out.as_mut_ptr(), out.len()) }
+}
+
+pub fn analyse_recording(route: Route, n: usize, blocks: usize, x: &[i16], out: &mut [i32]) -> u32 {
+    let call = match route {
+        Route::Direct => dapplescree_analyse_recording_direct,
+        Route::Short => dapplescree_analyse_recording_short,
+    };
+    unsafe { call(n, blocks, x.as_ptr(), x.len(), out.as_mut_ptr(), out.len()) }
+}
+
+pub fn synthesise_recording(n: usize, blocks: usize, x: &[i32], out: &mut [i16]) -> u32 {
+    unsafe { dapplescree_synthesise_recording(n, blocks, x.as_ptr(), x.len(), out.as_mut_ptr(), out.len()) }
+}

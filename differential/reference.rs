@@ -1,0 +1,327 @@
+//! Document 01 written out anew: exact series, naive sums, floored division. It shares no table with any other file.
+
+/// A natural number of any size, in base 2^64, lowest digit first.
+#[derive(Clone)]
+struct Natural(Vec<u64>);
+
+impl Natural {
+    fn from(z: u64) -> Natural {
+        Natural(vec![z])
+    }
+
+    fn times(&self, factor: u64) -> Natural {
+        let mut digits = Vec::with_capacity(self.0.len() + 1);
+        let mut carry = 0u128;
+        for &digit in &self.0 {
+            carry += u128::from(digit) * u128::from(factor);
+            digits.push(carry as u64);
+            carry >>= 64;
+        }
+        digits.push(carry as u64);
+        Natural(digits)
+    }
+
+    fn power(base: u64, exponent: usize) -> Natural {
+        (0..exponent).fold(Natural::from(1), |z, _| z.times(base))
+    }
+
+    fn product(&self, other: &Natural) -> Natural {
+        let mut sum = Natural::from(0);
+        for (i, &digit) in other.0.iter().enumerate() {
+            let mut part = vec![0; i];
+            part.extend(self.times(digit).0);
+            sum = sum.plus(&Natural(part));
+        }
+        sum
+    }
+
+    fn digit(&self, i: usize) -> u64 {
+        self.0.get(i).copied().unwrap_or(0)
+    }
+
+    fn plus(&self, other: &Natural) -> Natural {
+        let mut digits = Vec::new();
+        let mut carry = 0u128;
+        for i in 0..self.0.len().max(other.0.len()) {
+            carry += u128::from(self.digit(i)) + u128::from(other.digit(i));
+            digits.push(carry as u64);
+            carry >>= 64;
+        }
+        digits.push(carry as u64);
+        Natural(digits)
+    }
+
+    fn minus(&self, other: &Natural) -> Natural {
+        let mut digits = Vec::new();
+        let mut borrow = false;
+        for i in 0..self.0.len().max(other.0.len()) {
+            let (z, b) = self.digit(i).overflowing_sub(other.digit(i));
+            let (z, c) = z.overflowing_sub(u64::from(borrow));
+            digits.push(z);
+            borrow = b || c;
+        }
+        assert!(!borrow, "a difference below zero");
+        Natural(digits)
+    }
+
+    fn at_least(&self, other: &Natural) -> bool {
+        for i in (0..self.0.len().max(other.0.len())).rev() {
+            if self.digit(i) != other.digit(i) {
+                return self.digit(i) > other.digit(i);
+            }
+        }
+        true
+    }
+}
+
+/// C(t) for t = 0 to 72: the floor of 2^26 × series + 1/2, over one common denominator.
+fn series(t: u64) -> i128 {
+    // u = 2 × p × t / 288 = a / b
+    let a = 3_141_592_653_589_793 * t;
+    let b = 144 * 1_000_000_000_000_000;
+    let falling = |from: u64, to: u64| (to + 1..=from).product::<u64>();
+    // term i is a^2i × b^(20 - 2i) × (20! / (2i)!), over b^20 × 20!
+    let term = |i: usize| Natural::power(a, 2 * i).product(&Natural::power(b, 20 - 2 * i)).times(falling(20, 2 * i as u64));
+    let sum = |first: usize| (first..=10).step_by(2).fold(Natural::from(0), |z, i| z.plus(&term(i)));
+    let bottom = Natural::power(b, 20).times(falling(20, 0));
+    let mut top = sum(0).times(1 << 27).plus(&bottom).minus(&sum(1).times(1 << 27));
+    let twice = bottom.times(2);
+    let mut quotient = 0;
+    for bit in (0..=27).rev() {
+        let part = twice.times(1 << bit);
+        if top.at_least(&part) {
+            top = top.minus(&part);
+            quotient += 1 << bit;
+        }
+    }
+    assert!(!top.at_least(&twice), "a quotient above 2^28");
+    quotient
+}
+
+pub const LENGTHS: [usize; 4] = [12, 24, 36, 72];
+pub const STORAGE: usize = 36;
+pub const STATE: usize = 1 + STORAGE;
+pub const COEFFICIENT_LIMIT: i32 = 536_870_912;
+pub const BLOCKS: usize = 4096;
+
+#[derive(Clone, Copy, Debug, PartialEq)]
+pub enum Route {
+    Direct,
+    Short,
+}
+
+/// rnd(a/b): the floor of (a + b/2)/b.
+pub fn rnd(a: i128, b: i128) -> i128 {
+    assert!(b > 0 && b % 2 == 0);
+    (a + b / 2).div_euclid(b)
+}
+
+pub fn tabled(n: usize) -> bool {
+    LENGTHS.contains(&n)
+}
+
+pub fn tail_limit(n: usize) -> i64 {
+    (n / 2) as i64 * (1 << 55)
+}
+
+pub struct Bank {
+    quarter: Vec<i128>,
+}
+
+impl Bank {
+    pub fn new() -> Bank {
+        Bank { quarter: (0..=72).map(series).collect() }
+    }
+
+    pub fn c(&self, t: i64) -> i128 {
+        let t = t.rem_euclid(288);
+        if t <= 72 {
+            self.quarter[t as usize]
+        } else if t <= 144 {
+            -self.c(144 - t)
+        } else {
+            self.c(288 - t)
+        }
+    }
+
+    /// The window W(i) at length n.
+    pub fn w(&self, n: usize, i: usize) -> i128 {
+        let (n, i) = (n as i64, i as i64);
+        self.c(72 / n * (n - 2 * i - 1))
+    }
+
+    /// The kernel K(i,k) at length n.
+    pub fn k(&self, n: usize, i: usize, k: usize) -> i128 {
+        let (n, i, k) = (n as i64, i as i64, k as i64);
+        self.c(72 / n * (2 * i + 1 + n / 2) * (2 * k + 1))
+    }
+
+    /// The short kernel L(i,k) at length n.
+    pub fn l(&self, n: usize, i: usize, k: usize) -> i128 {
+        let (n, i, k) = (n as i64, i as i64, k as i64);
+        self.c(3 * (72 / n) * (2 * i + 1 + n / 6) * (2 * k + 1))
+    }
+
+    fn windowed(&self, n: usize, x: &[i16]) -> Vec<i128> {
+        (0..n).map(|i| rnd(self.w(n, i) * i128::from(x[i]), 1 << 18)).collect()
+    }
+
+    /// S(k), and what it is divided by.
+    fn direct(&self, n: usize, y: &[i128]) -> Vec<(i128, i128)> {
+        let s = |k: usize| (0..n).filter(|&i| y[i] != 0).map(|i| y[i] * self.k(n, i, k)).sum();
+        (0..n / 2).map(|k| (s(k), 1 << 28)).collect()
+    }
+
+    /// a - b + c, and what is divided by 2^26 to rB(i) and rC(i).
+    fn split(&self, n: usize, y: &[i128], i: usize) -> (i128, i128, i128) {
+        let third = n / 3;
+        let (a, b, c) = (y[third - 1 - i], y[2 * third - 1 - i], y[n - 1 - i]);
+        let (e, f) = (2 * c - a + b, a + b);
+        let s = 2 * (72 / n as i64) * (2 * i as i64 + 1);
+        let top_b = e * self.c(72 - s) - f * (self.c(s - 24) + self.c(s + 24));
+        let top_c = e * self.c(s) + f * (self.c(48 - s) + self.c(96 - s));
+        (a - b + c, top_b, top_c)
+    }
+
+    /// A(k), B(k) + D(k) and B(k) - D(k) at their places, and what each is divided by.
+    fn short(&self, n: usize, y: &[i128]) -> Vec<(i128, i128)> {
+        let (third, sixth) = (n / 3, n / 6);
+        let mut plain = Vec::new();
+        let mut r_b = Vec::new();
+        let mut r_c = Vec::new();
+        for i in 0..third {
+            let (part, top_b, top_c) = self.split(n, y, i);
+            plain.push(part);
+            r_b.push(rnd(top_b, 1 << 26));
+            let sign = if (i + n / 12) % 2 == 0 { -1 } else { 1 };
+            r_c.push(sign * rnd(top_c, 1 << 26));
+        }
+        let sum = |r: &[i128], k: usize| (0..third).filter(|&i| r[i] != 0).map(|i| self.l(n, i, k) * r[i]).sum::<i128>();
+        let mut x = Vec::new();
+        for k in 0..sixth {
+            let (a, b, d) = (sum(&plain, k), sum(&r_b, k), sum(&r_c, sixth - 1 - k));
+            x.extend([(b + d, 1 << 29), (a, 1 << 28), (b - d, 1 << 29)]);
+        }
+        x
+    }
+
+    /// For each coefficient of a block of n samples, the sum and the power of two whose quotient is rounded to it.
+    pub fn sums(&self, route: Route, n: usize, x: &[i16]) -> Vec<(i128, i128)> {
+        let y = self.windowed(n, x);
+        match route {
+            Route::Direct => self.direct(n, &y),
+            Route::Short => self.short(n, &y),
+        }
+    }
+
+    /// What is divided by 2^26 to rB(i) and rC(i).
+    #[cfg(library)]
+    pub fn split_sums(&self, n: usize, x: &[i16], i: usize) -> [i128; 2] {
+        let (_, top_b, top_c) = self.split(n, &self.windowed(n, x), i);
+        [top_b, top_c]
+    }
+
+    fn coefficients(&self, route: Route, n: usize, x: &[i16]) -> Vec<i32> {
+        let rounded = |(a, b): (i128, i128)| i32::try_from(rnd(a, b)).expect("a coefficient beyond 32 bits");
+        self.sums(route, n, x).into_iter().map(rounded).collect()
+    }
+
+    /// V(0) .. V(n-1).
+    pub fn v(&self, n: usize, x: &[i32]) -> Vec<i64> {
+        let u = |i: usize| rnd((0..n / 2).map(|k| i128::from(x[k]) * self.k(n, i, k)).sum(), 1 << 26);
+        (0..n).map(|i| i64::try_from(self.w(n, i) * u(i)).expect("V beyond 64 bits")).collect()
+    }
+
+    /// The hop of one step; the first n/2 entries of the tail are replaced.
+    fn advance(&self, n: usize, tail: &mut [i64], x: &[i32]) -> Vec<i16> {
+        let m = n / 2;
+        let v = self.v(n, x);
+        let sample = |i: usize| rnd(i128::from(tail[i]) + i128::from(v[i]), n as i128 * (1 << 30)).clamp(-32768, 32767) as i16;
+        let hop = (0..m).map(sample).collect();
+        tail[..m].copy_from_slice(&v[m..]);
+        hop
+    }
+
+    // The calls of the header, refusals included.
+
+    pub fn analyse(&self, route: Route, n: usize, x: &[i16], out: &mut [i32]) -> u32 {
+        if !tabled(n) {
+            return 1;
+        }
+        if x.len() != n || out.len() != n / 2 {
+            return 2;
+        }
+        out.copy_from_slice(&self.coefficients(route, n, x));
+        0
+    }
+
+    pub fn stream_fresh(&self, n: usize, state: &mut [i64]) -> u32 {
+        if state.len() != STATE {
+            return 2;
+        }
+        if !tabled(n) {
+            return 1;
+        }
+        state.fill(0);
+        state[0] = n as i64;
+        0
+    }
+
+    pub fn stream_step(&self, state: &mut [i64], x: &[i32], out: &mut [i16]) -> u32 {
+        if state.len() != STATE {
+            return 2;
+        }
+        let Some(n) = LENGTHS.into_iter().find(|&n| n as i64 == state[0]) else {
+            return 4;
+        };
+        let m = n / 2;
+        let limit = i128::from(tail_limit(n));
+        if state[1..1 + m].iter().any(|&t| i128::from(t) < -limit || i128::from(t) > limit) {
+            return 4;
+        }
+        if x.len() != m || out.len() != m {
+            return 2;
+        }
+        if beyond(x) {
+            return 3;
+        }
+        out.copy_from_slice(&self.advance(n, &mut state[1..], x));
+        0
+    }
+
+    pub fn analyse_recording(&self, route: Route, n: usize, blocks: usize, x: &[i16], out: &mut [i32]) -> u32 {
+        if !tabled(n) {
+            return 1;
+        }
+        let m = n / 2;
+        if blocks < 1 || blocks > BLOCKS || x.len() != (blocks + 1) * m || out.len() != blocks * m {
+            return 2;
+        }
+        for b in 0..blocks {
+            out[b * m..b * m + m].copy_from_slice(&self.coefficients(route, n, &x[b * m..b * m + n]));
+        }
+        0
+    }
+
+    pub fn synthesise_recording(&self, n: usize, blocks: usize, x: &[i32], out: &mut [i16]) -> u32 {
+        if !tabled(n) {
+            return 1;
+        }
+        let m = n / 2;
+        if blocks < 1 || blocks > BLOCKS || x.len() != blocks * m || out.len() != blocks * m {
+            return 2;
+        }
+        if beyond(x) {
+            return 3;
+        }
+        let mut tail = vec![0; m];
+        for b in 0..blocks {
+            out[b * m..b * m + m].copy_from_slice(&self.advance(n, &mut tail, &x[b * m..b * m + m]));
+        }
+        0
+    }
+}
+
+fn beyond(x: &[i32]) -> bool {
+    x.iter().any(|&z| z < -COEFFICIENT_LIMIT || z > COEFFICIENT_LIMIT)
+}

@@ -1,0 +1,79 @@
+//! The reference held against the lines of vectors/calls.py, one call to a line, fields parted by semicolons.
+use crate::reference::{Bank, Route};
+use std::fmt::Debug;
+use std::str::FromStr;
+
+/// A list of numbers parted by commas; nothing for an empty one.
+fn list<T: FromStr>(field: &str) -> Vec<T> {
+    field.split(',').filter(|f| !f.is_empty()).map(number).collect()
+}
+
+fn number<T: FromStr>(field: &str) -> T {
+    field.parse().unwrap_or_else(|_| panic!("not a number: {field}"))
+}
+
+fn route(field: &str) -> Route {
+    match field {
+        "direct" => Route::Direct,
+        "short" => Route::Short,
+        _ => panic!("not a route: {field}"),
+    }
+}
+
+/// A buffer's content after a call: "=" says that it is what it was.
+fn after<T: FromStr + Clone>(field: &str, before: &[T]) -> Vec<T> {
+    if field == "=" {
+        before.to_vec()
+    } else {
+        list(field)
+    }
+}
+
+/// Calls on a buffer of the stated length, and compares the number and the buffer.
+fn agrees<T: FromStr + Clone + PartialEq + Debug + From<u8>>(length: &str, code: &str, out: &str, call: impl FnOnce(&mut [T]) -> u32) -> bool {
+    let before: Vec<T> = (0..number::<usize>(length)).map(|i| T::from((i % 100) as u8)).collect();
+    let mut buffer = before.clone();
+    call(&mut buffer) == number(code) && buffer == after(out, &before)
+}
+
+/// Whether the reference answers as the line says.
+fn holds(bank: &Bank, line: &str) -> bool {
+    let fields: Vec<&str> = line.split(';').collect();
+    match fields[..] {
+        ["C", t, value] => bank.c(number(t)) == number(value),
+        ["W", n, i, value] => bank.w(number(n), number(i)) == number(value),
+        ["K", n, i, k, value] => bank.k(number(n), number(i), number(k)) == number(value),
+        ["L", n, i, k, value] => bank.l(number(n), number(i), number(k)) == number(value),
+        ["analyse", r, n, x, length, code, out] => agrees(length, code, out, |b| bank.analyse(route(r), number(n), &list(x), b)),
+        ["stream_fresh", n, state, code, after_state] => {
+            let before: Vec<i64> = list(state);
+            let mut now = before.clone();
+            bank.stream_fresh(number(n), &mut now) == number(code) && now == after(after_state, &before)
+        }
+        ["stream_step", state, x, length, code, out, after_state] => {
+            let before: Vec<i64> = list(state);
+            let mut now = before.clone();
+            agrees(length, code, out, |b| bank.stream_step(&mut now, &list(x), b)) && now == after(after_state, &before)
+        }
+        ["analyse_recording", r, n, blocks, x, length, code, out] => {
+            agrees(length, code, out, |b| bank.analyse_recording(route(r), number(n), number(blocks), &list(x), b))
+        }
+        ["synthesise_recording", n, blocks, x, length, code, out] => {
+            agrees(length, code, out, |b| bank.synthesise_recording(number(n), number(blocks), &list(x), b))
+        }
+        _ => false,
+    }
+}
+
+/// Reads the lines of standard input; the number of lines that hold, or the first that does not.
+pub fn run(bank: &Bank) -> Result<usize, String> {
+    let mut count = 0;
+    for line in std::io::stdin().lines() {
+        let line = line.map_err(|e| e.to_string())?;
+        if !holds(bank, &line) {
+            return Err(line);
+        }
+        count += 1;
+    }
+    Ok(count)
+}

@@ -1,0 +1,106 @@
+/* Dapplescree: the filter bank of the seabed recorder, a windowed MDCT in whole numbers.
+ *
+ * Link target/staticlib/libc_face.a (`rt staticlib c_face`). N is the block length: 12, 24, 36 or 72, the tabled lengths. M = N/2 is a hop.
+ * A sample is an int16_t. A coefficient is an int32_t counted in units of 1/64. y, S, X, U, V, rnd, W and K below are those of document 01.
+ *
+ * Each call returns a number:
+ *
+ *   0  taken
+ *   1  n is not tabled
+ *   2  a length differs from the stated one, or blocks is not 1 to 4096
+ *   3  a coefficient is below -536870912 or above 536870912
+ *   4  the state's entry 0 is not tabled, or one of its first M tail entries lies beyond plus or minus M * 2^55
+ *
+ * Under each call stand its numbers in the order in which they are tested; the first cause that holds is returned. Every check is made before
+ * anything is written: where the number is not 0, every buffer and the state hold what they held. Where it is 0, the buffer that the call fills
+ * holds what is said below, the others hold what they held. No call keeps anything between calls, or reads or writes anything but its
+ * arguments, so calls on different buffers may run at the same time.
+ *
+ * These are promises for every value of every argument, under what C cannot check: each pointer is not null, is aligned, and points to
+ * as many entries as the length that follows it says; the buffers of one call do not overlap; nothing else writes to them, or reads
+ * what is being written, until the call returns. The numbers returned, and what each buffer then holds, are the contracts of
+ * crates/c_face/src/lib.rt, which are proved; the distance of returned sound is a theorem of crates/demands over the same definitions.
+ */
+#ifndef DAPPLESCREE_H
+#define DAPPLESCREE_H
+
+#include <stddef.h>
+#include <stdint.h>
+
+#ifdef __cplusplus
+extern "C" {
+#endif
+
+/* The entries of a state: N, and then the tail's storage. Write the name and not the number: later versions have another. */
+#define DAPPLESCREE_STATE 37
+
+/* One block, analysed directly.
+ *   1  n is not tabled
+ *   2  samples_length is not N, or coefficients_length is not M
+ *   0  coefficients[k] is X(k) = rnd(S(k) / 2^28), k below M, with S(k) the sum over i of y(i) * K(i,k), y(i) = rnd(W(i) * samples[i] / 2^18)
+ */
+uint32_t dapplescree_analyse_direct(size_t n, const int16_t *samples, size_t samples_length, int32_t *coefficients,
+                                    size_t coefficients_length);
+
+/* One block, analysed by the short route.
+ *   1, 2  as above
+ *   0  coefficients[k] is the short route's X(k), k below M: equal to the direct one where k leaves 1 when divided by 3, else within
+ *      16 of it
+ */
+uint32_t dapplescree_analyse_short(size_t n, const int16_t *samples, size_t samples_length, int32_t *coefficients,
+                                   size_t coefficients_length);
+
+/* Makes a fresh stream.
+ *   2  state_length is not DAPPLESCREE_STATE
+ *   1  n is not tabled
+ *   0  state[0] is N and every other entry is 0
+ */
+uint32_t dapplescree_stream_fresh(size_t n, int64_t *state, size_t state_length);
+
+/* One synthesis step. N is state[0], and tail(i) is state[1 + i].
+ *   2  state_length is not DAPPLESCREE_STATE
+ *   4  state[0] is not tabled (a negative number is not), or a tail entry, i below M, lies beyond plus or minus M * 2^55
+ *   2  coefficients_length is not M, or hop_length is not M
+ *   3  a coefficient is beyond its limit
+ *   0  hop[i] is rnd((tail(i) + V(i)) / (N * 2^30)), clamped to -32768 .. 32767, i below M, with V(i) = W(i) * U(i) and
+ *      U(i) = rnd((the sum over k of coefficients[k] * K(i,k)) / 2^26); tail(i) then is V(M + i), i below M; state[0] and the tail's
+ *      storage from M on are kept
+ * A state that was made by dapplescree_stream_fresh and changed by this call alone is never refused with 4. The first hop of a fresh stream is
+ * the run-in. Where the steps taken on one stream, from a fresh one, bring the blocks of a recording in their order, as analysis gave them or
+ * with each coefficient changed by at most Q, the hop of block b, b at least 1, is the recording's hop b, each sample within (Q + 8) / 16
+ * of it, rounded down, so equal up to Q = 7; Q + 16 stands for Q where block b - 1 or b was analysed by the short route. Refused steps
+ * in between change nothing.
+ */
+uint32_t dapplescree_stream_step(int64_t *state, size_t state_length, const int32_t *coefficients, size_t coefficients_length, int16_t *hop,
+                                 size_t hop_length);
+
+/* A whole recording, each block analysed directly. Block b covers hops b and b + 1.
+ *   1  n is not tabled
+ *   2  blocks is not 1 to 4096, samples_length is not (blocks + 1) * M, or coefficients_length is not blocks * M
+ *   0  coefficients[b * M + k] is coefficient k that dapplescree_analyse_direct gives for samples[b * M] .. samples[b * M + N - 1]
+ */
+uint32_t dapplescree_analyse_recording_direct(size_t n, size_t blocks, const int16_t *samples, size_t samples_length,
+    int32_t *coefficients, size_t coefficients_length);
+
+/* A whole recording, each block analysed by the short route.
+ *   1, 2  as above
+ *   0  the same, with dapplescree_analyse_short
+ */
+uint32_t dapplescree_analyse_recording_short(size_t n, size_t blocks, const int16_t *samples, size_t samples_length,
+    int32_t *coefficients, size_t coefficients_length);
+
+/* Synthesis of a whole recording.
+ *   1  n is not tabled
+ *   2  blocks is not 1 to 4096, coefficients_length is not blocks * M, or samples_length is not blocks * M
+ *   3  a coefficient is beyond its limit, in whichever block
+ *   0  samples[b * M + i] is hop sample i of step b, the steps taken from a fresh stream with coefficients[b * M] .. coefficients[b * M + M - 1]
+ * The inner samples are those from place M on; their distance from the recording is that of the steps above.
+ */
+uint32_t dapplescree_synthesise_recording(size_t n, size_t blocks, const int32_t *coefficients, size_t coefficients_length,
+    int16_t *samples, size_t samples_length);
+
+#ifdef __cplusplus
+}
+#endif
+
+#endif
