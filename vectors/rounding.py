@@ -188,7 +188,7 @@ def table(results):
     print("|---|" + "---:|---:|" * len(LENGTHS))
     for row in ROWS:
         cells = " | ".join(f"{percent(bounds(N)[row])} | {percent(results[N][row])}" for N in LENGTHS)
-        print(f"| {NAMES[row]}{', computed' if row in BLOCKS else ''} | {cells} |")
+        print(f"| {NAMES[row]} | {cells} |")
 
 
 def limits():
@@ -243,7 +243,7 @@ def picture(results):
         for row in ROWS:
             bound, most = bounds(N)[row], results[N][row]
             text(left - 14, y + 15, NAMES[row], 14, "end", weight="bold" if row in ("blocks", "all") else "normal")
-            rect(left, y + 2, float(bound) * 100 * scale, 17, "#ffffff", COLOURS[row], DASHED if row in BLOCKS else "")
+            rect(left, y + 2, float(bound) * 100 * scale, 17, "#ffffff", COLOURS[row])
             rect(left, y + 2, float(most) * 100 * scale, 17, COLOURS[row])
             # beside the bar, or in its empty part where that is long
             after = most if row in ("blocks", "all") else bound
@@ -255,7 +255,6 @@ def picture(results):
     for x, fill, more, words in (
         (30, "#555555", "", "largest found by search"),
         (290, "#ffffff", "", "proved bound"),
-        (470, "#ffffff", DASHED, "computed from the laws of one block; only the sum is proved"),
     ):
         rect(x, y, 30, 14, fill, "#555555", more)
         text(x + 40, y + 12, words, 14, fill="#333333")

@@ -10,7 +10,7 @@ use Rattle.arithmetic.specs.RingLaws.{ring, lins}
 use Rattle.arithmetic.specs.OrderLaws.{abs-add, abs-neg, abs-mul-le}
 
 -- b e and a f, where |a| + |b| ≤ R
-two : (a b : ℤ) (R E : ℕ) (e f : ℤ) → natAbs e ≤ E → natAbs f ≤ E → natAbs a + natAbs b ≤ R → natAbs (b *ℤ e +ℤ a *ℤ f) ≤ R * E
+pub two : (a b : ℤ) (R E : ℕ) (e f : ℤ) → natAbs e ≤ E → natAbs f ≤ E → natAbs a + natAbs b ≤ R → natAbs (b *ℤ e +ℤ a *ℤ f) ≤ R * E
 two a b R E e f p q r =
     omega (arith, abs-add (b *ℤ e) (a *ℤ f), abs-mul-le b e (le-refl (natAbs b)) p, abs-mul-le a f (le-refl (natAbs a)) q, mul-le-mul-right E r)
 

@@ -4,3 +4,4 @@ pub mod BlockLaws
 pub mod JointLaws
 pub mod ReturnLaws
 pub mod DistanceLaws
+pub mod ShareLaws

@@ -43,7 +43,7 @@ module _ (m : ℕ) (D : ℕ → ℕ → ℤ) (v : ℕ → ℤ) (i : ℕ) where
       ∙ rw (diagonal-same c i)
 
   -- the exchanged sum is c × v i, up to B times the row's defect
-  near-diagonal : (c B : ℕ) → i < m → ((j : ℕ) → j < m → natAbs (v j) ≤ B) → natAbs (sum m (λ j. v j *ℤ product m D i j) -ℤ v i *ℤ pos c) ≤ B * defect m D c i
+  pub near-diagonal : (c B : ℕ) → i < m → ((j : ℕ) → j < m → natAbs (v j) ≤ B) → natAbs (sum m (λ j. v j *ℤ product m D i j) -ℤ v i *ℤ pos c) ≤ B * defect m D c i
   unfolding defect
   near-diagonal c B p b =
       rw
@@ -72,7 +72,7 @@ module _ (m P O H A : ℕ) (X Z S d : ℕ → ℤ)
       one : (p : ℕ) (x z s d : ℤ) → pos p *ℤ (z *ℤ d) ≡ (pos p *ℤ x -ℤ s) *ℤ d +ℤ s *ℤ d +ℤ pos p *ℤ ((z -ℤ x) *ℤ d)
       one p x z s d = simp ints (omega arith)
 
-  rounded : natAbs (sum m (λ k. (pos P *ℤ X k -ℤ S k) *ℤ d k)) ≤ m * (H * O)
+  pub rounded : natAbs (sum m (λ k. (pos P *ℤ X k -ℤ S k) *ℤ d k)) ≤ m * (H * O)
   rounded = sum-abs m (λ k. (pos P *ℤ X k -ℤ S k) *ℤ d k) (H * O) (λ k q. abs-mul-le (pos P *ℤ X k -ℤ S k) (d k) (X≈ k q) (d≤ k q))
 
   changed : natAbs (sum m (λ k. (Z k -ℤ X k) *ℤ d k)) ≤ O * A

@@ -185,14 +185,17 @@ module _ (N : ℕ) (o : T (offered N)) (y : ℕ → ℤ) (y≤ : (n : ℕ) → n
   pub minus-small : Small minus (2 ^ 58)
   minus-small = rw (u .minus-is) (table-small (N / 6) (2 ^ 58) (λ k. B N y k -ℤ D N y k) (λ k p. omega (arith, minus-size N y y≤ k, length-of N (offered-tabled N o) .most)))
 
-pub short-step : (N : ℕ) → T (offered N) → (x : List ℤ) (n k m : ℕ) (left right block middle plus minus out : List ℤ) →
-    n ≡ N → k ≡ N → m ≡ N / 6 → left ≡ riseList N → right ≡ fallList N → block ≡ table n (y n (at left) (at right) x) → Unrounded k (at block) middle plus minus →
+pub windowed-step : (N : ℕ) (x : List ℤ) (n : ℕ) (left right block : List ℤ) → n ≡ N → left ≡ riseList N → right ≡ fallList N →
+    block ≡ table n (y n (at left) (at right) x) → block ≡ table N (y N (at (riseList N)) (at (fallList N)) x)
+windowed-step N x n left right block e l r w = rw (e, l, r) at w
+
+pub short-step : (N : ℕ) → T (offered N) → (x : List ℤ) (k m : ℕ) (block middle plus minus out : List ℤ) →
+    k ≡ N → m ≡ N / 6 → block ≡ table N (y N (at (riseList N)) (at (fallList N)) x) → Unrounded k (at block) middle plus minus →
     out ≡ table (3 * m) (interleaved middle plus minus) → out ≡ short N (y N (rising N) (falling N) x)
 unfolding short
-short-step N o x n k m left right block middle plus minus out e j q l r w u h =
+short-step N o x k m block middle plus minus out j q is u h =
     let half : 3 * m ≡ N / 2 = omega (arith, length-of N (offered-tabled N o) .twelve) in
     let lent = y N (at (riseList N)) (at (fallList N)) x in
-    let is : block ≡ table N lent = rw (e, l, r) at w in
     let v : Unrounded N (at block) middle plus minus = rw j at u in
     rw half at h
     ∙ table-ext (N / 2) (interleaved middle plus minus) (shortX N (at block)) (λ i p. interleaved-is N (at block) middle plus minus v i (omega (arith, length-of N (offered-tabled N o) .twelve)))

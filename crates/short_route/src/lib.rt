@@ -5,31 +5,37 @@ mod split;
 mod tables;
 
 ghost use mathlib.Core.Path.{_≡_};
-ghost use Prim.Native.Nat.{_/_};
+ghost use Prim.Native.Nat.{_/_, _^_};
 ghost use lib.Dec.{T};
 ghost use lib.ListN.{length};
+ghost use Rattle.arithmetic.specs.Lists.{at, table, Small};
 ghost use Rattle.cosine.specs.Kernels.{rising, falling};
 ghost use Rattle.transform.specs.Analysis.{y};
 ghost use Rattle.transform.specs.RowLaws.{riseList, fallList};
-ghost use Rattle.short_route.specs.ShortRoute.{offered, short};
+ghost use Rattle.short_route.specs.ShortRoute.{offered, Unrounded, short};
 
-// The coefficients of a block. The length's window is lent, and room for the windowed block and for the sums of its split.
-fn short_block(
-    n: usize,
-    left: &[i32],
-    right: &[i32],
-    x: &[i16],
-    block: &mut [i32],
-    a: &mut [i64],
-    plus: &mut [i64],
-    minus: &mut [i64],
-    out: &mut [i32],
-)
-    requires { ⌜ T (offered n) × (now left ≡ riseList n) × (now right ≡ fallList n) × (length (now x) ≡ n) × (length (now block) ≡ n) × (length (now a) ≡ n / 6) × (length (now plus) ≡ n / 6) × (length (now minus) ≡ n / 6) × (length (now out) ≡ n / 2) ⌝ }
-    ensures { λ _. ⌜ now (out .exit) ≡ short n (y n (rising n) (falling n) (now (x .entry))) ⌝ }
+// The block, windowed. The length's window is lent.
+// A length's function calls this, its split and the next one by itself, so that the compiler knows every count.
+fn windowed_block(n: usize, left: &[i32], right: &[i32], x: &[i16], block: &mut [i32])
+    requires { ⌜ T (offered n) × (now left ≡ riseList n) × (now right ≡ fallList n) × (length (now x) ≡ n) × (length (now block) ≡ n) ⌝ }
+    ensures { λ _. ⌜ (now (block .exit) ≡ table n (y n (at (riseList n)) (at (fallList n)) (now (x .entry)))) × Small (now (block .exit)) (2 ^ 23) ⌝ }
 {
     block::windowed_block(left, right, x, block);
-    split::split(block, a, plus, minus);
+}
+
+// The coefficients of a block x from the sums of its split, `block` being the block windowed.
+fn short_block(
+    n: usize,
+    x: &[i16],
+    block: &[i32],
+    a: &[i64],
+    plus: &[i64],
+    minus: &[i64],
+    out: &mut [i32],
+)
+    requires { ⌜ T (offered n) × (now block ≡ table n (y n (at (riseList n)) (at (fallList n)) (now x))) × Small (now block) (2 ^ 23) × Unrounded (length (now block)) (at (now block)) (now a) (now plus) (now minus) × (length (now out) ≡ n / 2) ⌝ }
+    ensures { λ _. ⌜ now (out .exit) ≡ short n (y n (rising n) (falling n) (now (x .entry))) ⌝ }
+{
     block::coefficients(a, plus, minus, out);
 }
 
@@ -41,17 +47,15 @@ fn short_12(x: &[i16], out: &mut [i32])
     let mut a = [0i64; 2];
     let mut plus = [0i64; 2];
     let mut minus = [0i64; 2];
-    short_block(
+    windowed_block(
         12,
         &transform::tables::RISE_12,
         &transform::tables::FALL_12,
         x,
         &mut block,
-        &mut a,
-        &mut plus,
-        &mut minus,
-        out,
     );
+    split::split_12(&block, &mut a, &mut plus, &mut minus);
+    short_block(12, x, &block, &a, &plus, &minus, out);
 }
 
 fn short_24(x: &[i16], out: &mut [i32])
@@ -62,17 +66,15 @@ fn short_24(x: &[i16], out: &mut [i32])
     let mut a = [0i64; 4];
     let mut plus = [0i64; 4];
     let mut minus = [0i64; 4];
-    short_block(
+    windowed_block(
         24,
         &transform::tables::RISE_24,
         &transform::tables::FALL_24,
         x,
         &mut block,
-        &mut a,
-        &mut plus,
-        &mut minus,
-        out,
     );
+    split::split_24(&block, &mut a, &mut plus, &mut minus);
+    short_block(24, x, &block, &a, &plus, &minus, out);
 }
 
 fn short_36(x: &[i16], out: &mut [i32])
@@ -83,17 +85,15 @@ fn short_36(x: &[i16], out: &mut [i32])
     let mut a = [0i64; 6];
     let mut plus = [0i64; 6];
     let mut minus = [0i64; 6];
-    short_block(
+    windowed_block(
         36,
         &transform::tables::RISE_36,
         &transform::tables::FALL_36,
         x,
         &mut block,
-        &mut a,
-        &mut plus,
-        &mut minus,
-        out,
     );
+    split::split_36(&block, &mut a, &mut plus, &mut minus);
+    short_block(36, x, &block, &a, &plus, &minus, out);
 }
 
 fn short_72(x: &[i16], out: &mut [i32])
@@ -104,17 +104,15 @@ fn short_72(x: &[i16], out: &mut [i32])
     let mut a = [0i64; 12];
     let mut plus = [0i64; 12];
     let mut minus = [0i64; 12];
-    short_block(
+    windowed_block(
         72,
         &transform::tables::RISE_72,
         &transform::tables::FALL_72,
         x,
         &mut block,
-        &mut a,
-        &mut plus,
-        &mut minus,
-        out,
     );
+    split::split_72(&block, &mut a, &mut plus, &mut minus);
+    short_block(72, x, &block, &a, &plus, &minus, out);
 }
 
 // The coefficients of a block, for `filter_bank`: each length lends its own tables.

@@ -9,7 +9,7 @@ ghost use Rattle.arithmetic.specs.Lists.{at, table, Small};
 ghost use Rattle.cosine.specs.Kernels.{eB, fB, eC, fC};
 ghost use Rattle.cosine.specs.LengthLaws.{Part};
 ghost use Rattle.transform.specs.Analysis.{S};
-ghost use Rattle.short_route.specs.ShortRoute.{offered, a, b, c, e, f, rB, rC, Unrounded};
+ghost use Rattle.short_route.specs.ShortRoute.{offered, a, b, c, e, f, rB, rC, B, D, Unrounded};
 ghost use Rattle.transform.specs.FoldLaws.{folded};
 ghost use Rattle.short_route.specs.ShortFoldLaws.{middle, turnedC, sumsA, sumsB, sumsG};
 ghost use Rattle.transform.specs.RowLaws.{rowList};
@@ -94,7 +94,7 @@ fn signed_rc_at(y: &[i32], ec: &[i32], fc: &[i32], n: usize) -> i32
 // The inputs of the three parts of N/3.
 fn fill_middle(y: &[i32], w: &mut [i32])
     requires { ⌜ (length (now w) ≡ length (now y) / 3) × Small (now y) (2 ^ 23) ⌝ }
-    ensures { λ _. ⌜ now (w .exit) ≡ table (length (now (w .entry))) (middle (length (now (y .entry))) (at (now (y .entry)))) ⌝ }
+    ensures { λ _. ⌜ now (w .exit) ≡ table (length (now (y .entry)) / 3) (middle (length (now (y .entry))) (at (now (y .entry)))) ⌝ }
 {
     for n in 0..w.len() {
         w[n] = middle_at(y, n);
@@ -103,7 +103,7 @@ fn fill_middle(y: &[i32], w: &mut [i32])
 
 fn fill_rb(y: &[i32], eb: &[i32], fb: &[i32], w: &mut [i32])
     requires { ⌜ (length (now w) ≡ length (now y) / 3) × Small (now y) (2 ^ 23) × (now eb ≡ rotation eB (length (now y))) × (now fb ≡ rotation fB (length (now y))) ⌝ }
-    ensures { λ _. ⌜ now (w .exit) ≡ table (length (now (w .entry))) (rB (length (now (y .entry))) (at (now (y .entry)))) ⌝ }
+    ensures { λ _. ⌜ now (w .exit) ≡ table (length (now (y .entry)) / 3) (rB (length (now (y .entry))) (at (now (y .entry)))) ⌝ }
 {
     for n in 0..w.len() {
         w[n] = rb_at(y, eb, fb, n);
@@ -112,7 +112,7 @@ fn fill_rb(y: &[i32], eb: &[i32], fb: &[i32], w: &mut [i32])
 
 fn fill_rc(y: &[i32], ec: &[i32], fc: &[i32], w: &mut [i32])
     requires { ⌜ (length (now w) ≡ length (now y) / 3) × Small (now y) (2 ^ 23) × (now ec ≡ rotation eC (length (now y))) × (now fc ≡ rotation fC (length (now y))) ⌝ }
-    ensures { λ _. ⌜ now (w .exit) ≡ table (length (now (w .entry))) (turnedC (length (now (y .entry))) (at (now (y .entry)))) ⌝ }
+    ensures { λ _. ⌜ now (w .exit) ≡ table (length (now (y .entry)) / 3) (turnedC (length (now (y .entry))) (at (now (y .entry)))) ⌝ }
 {
     for n in 0..w.len() {
         w[n] = signed_rc_at(y, ec, fc, n);
@@ -150,46 +150,30 @@ fn part_sums(w: &[i32], rows: &[i32], z: &mut [i32], t: &mut [i64])
     sums(z, rows, t);
 }
 
+// The sums of the three parts of N/3, w being a part's inputs. The part's rows are lent, and room for the folded inputs.
+// A length's function calls these and the three that fill w by itself, so that the compiler knows every count.
+
 // A(k), from a - b + c.
-fn a_sums(y: &[i32], rows: &[i32], w: &mut [i32], z: &mut [i32], a: &mut [i64])
-    requires { ⌜ T (offered (length (now y))) × Small (now y) (2 ^ 23) × (now rows ≡ rowList (length (now y) / 3)) × (length (now w) ≡ length (now y) / 3) × (length (now z) ≡ length (now y) / 6) × (length (now a) ≡ length (now y) / 6) ⌝ }
+fn a_sums(y: &[i32], w: &[i32], rows: &[i32], z: &mut [i32], a: &mut [i64])
+    requires { ⌜ T (offered (length (now y))) × Small (now y) (2 ^ 23) × (now w ≡ table (length (now y) / 3) (middle (length (now y)) (at (now y)))) × (now rows ≡ rowList (length (now y) / 3)) × (length (now z) ≡ length (now y) / 6) × (length (now a) ≡ length (now y) / 6) ⌝ }
     ensures { λ _. ⌜ now (a .exit) ≡ sumsA (length (now (y .entry))) (at (now (y .entry))) ⌝ }
 {
-    fill_middle(y, w);
     part_sums(w, rows, z, a);
 }
 
 // B(k), from rB.
-fn b_sums(
-    y: &[i32],
-    eb: &[i32],
-    fb: &[i32],
-    rows: &[i32],
-    w: &mut [i32],
-    z: &mut [i32],
-    b: &mut [i64],
-)
-    requires { ⌜ T (offered (length (now y))) × Small (now y) (2 ^ 23) × (now rows ≡ rowList (length (now y) / 3)) × (length (now w) ≡ length (now y) / 3) × (length (now z) ≡ length (now y) / 6) × (length (now b) ≡ length (now y) / 6) × (now eb ≡ rotation eB (length (now y))) × (now fb ≡ rotation fB (length (now y))) ⌝ }
+fn b_sums(y: &[i32], w: &[i32], rows: &[i32], z: &mut [i32], b: &mut [i64])
+    requires { ⌜ T (offered (length (now y))) × Small (now y) (2 ^ 23) × (now w ≡ table (length (now y) / 3) (rB (length (now y)) (at (now y)))) × (now rows ≡ rowList (length (now y) / 3)) × (length (now z) ≡ length (now y) / 6) × (length (now b) ≡ length (now y) / 6) ⌝ }
     ensures { λ _. ⌜ now (b .exit) ≡ sumsB (length (now (y .entry))) (at (now (y .entry))) ⌝ }
 {
-    fill_rb(y, eb, fb, w);
     part_sums(w, rows, z, b);
 }
 
 // G(k), from rC with its signs.
-fn g_sums(
-    y: &[i32],
-    ec: &[i32],
-    fc: &[i32],
-    rows: &[i32],
-    w: &mut [i32],
-    z: &mut [i32],
-    g: &mut [i64],
-)
-    requires { ⌜ T (offered (length (now y))) × Small (now y) (2 ^ 23) × (now rows ≡ rowList (length (now y) / 3)) × (length (now w) ≡ length (now y) / 3) × (length (now z) ≡ length (now y) / 6) × (length (now g) ≡ length (now y) / 6) × (now ec ≡ rotation eC (length (now y))) × (now fc ≡ rotation fC (length (now y))) ⌝ }
+fn g_sums(y: &[i32], w: &[i32], rows: &[i32], z: &mut [i32], g: &mut [i64])
+    requires { ⌜ T (offered (length (now y))) × Small (now y) (2 ^ 23) × (now w ≡ table (length (now y) / 3) (turnedC (length (now y)) (at (now y)))) × (now rows ≡ rowList (length (now y) / 3)) × (length (now z) ≡ length (now y) / 6) × (length (now g) ≡ length (now y) / 6) ⌝ }
     ensures { λ _. ⌜ now (g .exit) ≡ sumsG (length (now (y .entry))) (at (now (y .entry))) ⌝ }
 {
-    fill_rc(y, ec, fc, w);
     part_sums(w, rows, z, g);
 }
 
@@ -206,35 +190,16 @@ fn join(b: &[i64], g: &[i64], plus: &mut [i64], minus: &mut [i64])
     }
 }
 
-// The split of y. The cosines beside e and f and the rows of a third are lent, and room for a third's inputs, for them folded, and for B and G.
-fn split_part(
-    y: &[i32],
-    eb: &[i32],
-    fb: &[i32],
-    ec: &[i32],
-    fc: &[i32],
-    rows: &[i32],
-    w: &mut [i32],
-    z: &mut [i32],
-    b: &mut [i64],
-    g: &mut [i64],
-    a: &mut [i64],
-    plus: &mut [i64],
-    minus: &mut [i64],
-)
-    requires { ⌜ T (offered (length (now y))) × Small (now y) (2 ^ 23) ⌝ }
-    requires { ⌜ (now eb ≡ rotation eB (length (now y))) × (now fb ≡ rotation fB (length (now y))) × (now ec ≡ rotation eC (length (now y))) × (now fc ≡ rotation fC (length (now y))) × (now rows ≡ rowList (length (now y) / 3)) ⌝ }
-    requires { ⌜ (length (now w) ≡ length (now y) / 3) × (length (now z) ≡ length (now y) / 6) × (length (now b) ≡ length (now y) / 6) × (length (now g) ≡ length (now y) / 6) ⌝ }
-    requires { ⌜ (length (now a) ≡ length (now y) / 6) × (length (now plus) ≡ length (now y) / 6) × (length (now minus) ≡ length (now y) / 6) ⌝ }
-    ensures { λ _. ⌜ Unrounded (length (now (y .entry))) (at (now (y .entry))) (now (a .exit)) (now (plus .exit)) (now (minus .exit)) ⌝ }
+// The same of y, from its B and its G.
+fn outer_sums(y: &[i32], b: &[i64], g: &[i64], plus: &mut [i64], minus: &mut [i64])
+    requires { ⌜ T (offered (length (now y))) × Small (now y) (2 ^ 23) × (now b ≡ sumsB (length (now y)) (at (now y))) × (now g ≡ sumsG (length (now y)) (at (now y))) × (length (now plus) ≡ length (now y) / 6) × (length (now minus) ≡ length (now y) / 6) ⌝ }
+    ensures { λ _. ⌜ (now (plus .exit) ≡ table (length (now (y .entry)) / 6) (λ k. B (length (now (y .entry))) (at (now (y .entry))) k +ℤ D (length (now (y .entry))) (at (now (y .entry))) k)) × (now (minus .exit) ≡ table (length (now (y .entry)) / 6) (λ k. B (length (now (y .entry))) (at (now (y .entry))) k -ℤ D (length (now (y .entry))) (at (now (y .entry))) k)) ⌝ }
 {
-    a_sums(y, rows, w, z, a);
-    b_sums(y, eb, fb, rows, w, z, b);
-    g_sums(y, ec, fc, rows, w, z, g);
     join(b, g, plus, minus);
 }
 
-fn split_12(y: &[i32], a: &mut [i64], plus: &mut [i64], minus: &mut [i64])
+// The split of y, at each length.
+pub fn split_12(y: &[i32], a: &mut [i64], plus: &mut [i64], minus: &mut [i64])
     requires { ⌜ (length (now y) ≡ 12) × Small (now y) (2 ^ 23) × (length (now a) ≡ 2) × (length (now plus) ≡ 2) × (length (now minus) ≡ 2) ⌝ }
     ensures { λ _. ⌜ Unrounded (length (now (y .entry))) (at (now (y .entry))) (now (a .exit)) (now (plus .exit)) (now (minus .exit)) ⌝ }
 {
@@ -242,24 +207,16 @@ fn split_12(y: &[i32], a: &mut [i64], plus: &mut [i64], minus: &mut [i64])
     let mut z = [0i32; 2];
     let mut b = [0i64; 2];
     let mut g = [0i64; 2];
-    split_part(
-        y,
-        &tables::EB_12,
-        &tables::FB_12,
-        &tables::EC_12,
-        &tables::FC_12,
-        &tables::ROWS_4,
-        &mut w,
-        &mut z,
-        &mut b,
-        &mut g,
-        a,
-        plus,
-        minus,
-    );
+    fill_middle(y, &mut w);
+    a_sums(y, &w, &tables::ROWS_4, &mut z, a);
+    fill_rb(y, &tables::EB_12, &tables::FB_12, &mut w);
+    b_sums(y, &w, &tables::ROWS_4, &mut z, &mut b);
+    fill_rc(y, &tables::EC_12, &tables::FC_12, &mut w);
+    g_sums(y, &w, &tables::ROWS_4, &mut z, &mut g);
+    outer_sums(y, &b, &g, plus, minus);
 }
 
-fn split_24(y: &[i32], a: &mut [i64], plus: &mut [i64], minus: &mut [i64])
+pub fn split_24(y: &[i32], a: &mut [i64], plus: &mut [i64], minus: &mut [i64])
     requires { ⌜ (length (now y) ≡ 24) × Small (now y) (2 ^ 23) × (length (now a) ≡ 4) × (length (now plus) ≡ 4) × (length (now minus) ≡ 4) ⌝ }
     ensures { λ _. ⌜ Unrounded (length (now (y .entry))) (at (now (y .entry))) (now (a .exit)) (now (plus .exit)) (now (minus .exit)) ⌝ }
 {
@@ -267,24 +224,16 @@ fn split_24(y: &[i32], a: &mut [i64], plus: &mut [i64], minus: &mut [i64])
     let mut z = [0i32; 4];
     let mut b = [0i64; 4];
     let mut g = [0i64; 4];
-    split_part(
-        y,
-        &tables::EB_24,
-        &tables::FB_24,
-        &tables::EC_24,
-        &tables::FC_24,
-        &tables::ROWS_8,
-        &mut w,
-        &mut z,
-        &mut b,
-        &mut g,
-        a,
-        plus,
-        minus,
-    );
+    fill_middle(y, &mut w);
+    a_sums(y, &w, &tables::ROWS_8, &mut z, a);
+    fill_rb(y, &tables::EB_24, &tables::FB_24, &mut w);
+    b_sums(y, &w, &tables::ROWS_8, &mut z, &mut b);
+    fill_rc(y, &tables::EC_24, &tables::FC_24, &mut w);
+    g_sums(y, &w, &tables::ROWS_8, &mut z, &mut g);
+    outer_sums(y, &b, &g, plus, minus);
 }
 
-fn split_36(y: &[i32], a: &mut [i64], plus: &mut [i64], minus: &mut [i64])
+pub fn split_36(y: &[i32], a: &mut [i64], plus: &mut [i64], minus: &mut [i64])
     requires { ⌜ (length (now y) ≡ 36) × Small (now y) (2 ^ 23) × (length (now a) ≡ 6) × (length (now plus) ≡ 6) × (length (now minus) ≡ 6) ⌝ }
     ensures { λ _. ⌜ Unrounded (length (now (y .entry))) (at (now (y .entry))) (now (a .exit)) (now (plus .exit)) (now (minus .exit)) ⌝ }
 {
@@ -292,24 +241,16 @@ fn split_36(y: &[i32], a: &mut [i64], plus: &mut [i64], minus: &mut [i64])
     let mut z = [0i32; 6];
     let mut b = [0i64; 6];
     let mut g = [0i64; 6];
-    split_part(
-        y,
-        &tables::EB_36,
-        &tables::FB_36,
-        &tables::EC_36,
-        &tables::FC_36,
-        &transform::tables::ROWS_12,
-        &mut w,
-        &mut z,
-        &mut b,
-        &mut g,
-        a,
-        plus,
-        minus,
-    );
+    fill_middle(y, &mut w);
+    a_sums(y, &w, &transform::tables::ROWS_12, &mut z, a);
+    fill_rb(y, &tables::EB_36, &tables::FB_36, &mut w);
+    b_sums(y, &w, &transform::tables::ROWS_12, &mut z, &mut b);
+    fill_rc(y, &tables::EC_36, &tables::FC_36, &mut w);
+    g_sums(y, &w, &transform::tables::ROWS_12, &mut z, &mut g);
+    outer_sums(y, &b, &g, plus, minus);
 }
 
-fn split_72(y: &[i32], a: &mut [i64], plus: &mut [i64], minus: &mut [i64])
+pub fn split_72(y: &[i32], a: &mut [i64], plus: &mut [i64], minus: &mut [i64])
     requires { ⌜ (length (now y) ≡ 72) × Small (now y) (2 ^ 23) × (length (now a) ≡ 12) × (length (now plus) ≡ 12) × (length (now minus) ≡ 12) ⌝ }
     ensures { λ _. ⌜ Unrounded (length (now (y .entry))) (at (now (y .entry))) (now (a .exit)) (now (plus .exit)) (now (minus .exit)) ⌝ }
 {
@@ -317,24 +258,16 @@ fn split_72(y: &[i32], a: &mut [i64], plus: &mut [i64], minus: &mut [i64])
     let mut z = [0i32; 12];
     let mut b = [0i64; 12];
     let mut g = [0i64; 12];
-    split_part(
-        y,
-        &tables::EB_72,
-        &tables::FB_72,
-        &tables::EC_72,
-        &tables::FC_72,
-        &transform::tables::ROWS_24,
-        &mut w,
-        &mut z,
-        &mut b,
-        &mut g,
-        a,
-        plus,
-        minus,
-    );
+    fill_middle(y, &mut w);
+    a_sums(y, &w, &transform::tables::ROWS_24, &mut z, a);
+    fill_rb(y, &tables::EB_72, &tables::FB_72, &mut w);
+    b_sums(y, &w, &transform::tables::ROWS_24, &mut z, &mut b);
+    fill_rc(y, &tables::EC_72, &tables::FC_72, &mut w);
+    g_sums(y, &w, &transform::tables::ROWS_24, &mut z, &mut g);
+    outer_sums(y, &b, &g, plus, minus);
 }
 
-// The split of y: each length lends its own tables.
+// The split of y at any length: each lends its own tables.
 pub fn split(y: &[i32], a: &mut [i64], plus: &mut [i64], minus: &mut [i64])
     requires { ⌜ T (offered (length (now y))) × Small (now y) (2 ^ 23) × (length (now a) ≡ length (now y) / 6) × (length (now plus) ≡ length (now y) / 6) × (length (now minus) ≡ length (now y) / 6) ⌝ }
     ensures { λ _. ⌜ Unrounded (length (now (y .entry))) (at (now (y .entry))) (now (a .exit)) (now (plus .exit)) (now (minus .exit)) ⌝ }

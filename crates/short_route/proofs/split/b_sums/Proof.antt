@@ -5,7 +5,7 @@ use Prim.Native.Nat.{ℕ, _/_, _^_}
 use native.Mathlib.Omega.{arith}
 use lib.ListN.{length}
 use lib.IntN.{ℤ}
-use Rattle.arithmetic.specs.Lists.{at, table, Small}
+use Rattle.arithmetic.specs.Lists.{at, Small}
 use Rattle.arithmetic.specs.ListLaws.{length-table}
 use Rattle.cosine.specs.LengthLaws.{length-of, third-part}
 use Rattle.short_route.specs.OfferLaws.{offered-tabled}
@@ -20,43 +20,32 @@ module _ (c : tie.Start) where
   abbrev N : ℕ
   N = length (c .args .y .now)
 
-  -- the inputs
+  -- the inputs, by their rule and as they are lent
   abbrev v : ℕ → ℤ
   v = rB N (at (c .args .y .now))
 
-fill-rb-requires : tie.Need-fill-rb-requires
-fill-rb-requires c κs = search needs
-
--- the inputs, as they are written
-module _ (c : tie.After-fill-rb) where
-  abbrev s : tie.Start
-  s = c .before .before
-
   abbrev w : List ℤ
-  w = c .fill-rb .last .1 .1 .1 .0
+  w = c .args .w .now
 
-  w-is : w ≡ table (N s / 3) (v s)
-  w-is = c .fill-rb .ensures ∙ ap (λ (m : ℕ). table m (v s)) (s .pre .3)
-
-  w-length : length w ≡ N s / 3
-  w-length = ap length w-is ∙ length-table (v s) (N s / 3)
+  w-length : length w ≡ N / 3
+  w-length = ap length (c .pre .2) ∙ length-table v (N / 3)
 
   w-small : Small w (2 ^ 26)
-  w-small = rw w-is (table-small (N s / 3) (2 ^ 26) (v s) (λ n p. omega (arith, rB-size (N s) (at (s .args .y .now)) (λ i b. s .pre .1 .small i b) n p)))
+  w-small = rw (c .pre .2) (table-small (N / 3) (2 ^ 26) v (λ n p. omega (arith, rB-size N (at (c .args .y .now)) (λ i b. c .pre .1 .small i b) n p)))
 
 part-sums-requires : tie.Need-part-sums-requires
 part-sums-requires c κs =
-    let f = c .before .before .before .before in
-    let q = s f .pre in
-    let l = w-length f in
-    let t = offered-tabled (N (s f)) (q .0) in
-    let k = length-of (N (s f)) t in (
-      rw l (third-part (N (s f)) t),
+    let s = c .before .before in
+    let q = s .pre in
+    let l = w-length s in
+    let t = offered-tabled (N s) (q .0) in
+    let k = length-of (N s) t in (
+      rw l (third-part (N s) t),
       omega (arith, l, k .most),
-      rw l (q .2),
+      rw l (q .3),
       omega (arith, l, q .4, k .twelve),
       omega (arith, q .4, q .5),
-      w-small f,
+      w-small s,
     )
 
 same-length : tie.Need-same-length
@@ -65,16 +54,12 @@ same-length c = search needs
 same-length-2 : tie.Need-same-length-2
 same-length-2 c = search needs
 
-same-length-3 : tie.Need-same-length-3
-same-length-3 c = search needs
-
 returns : tie.Need-returns
 unfolding B
 returns c =
-    let f = c .before .before .before .before .before .before .before in
-    third-step (N (s f)) (s f .pre .0) (at (s f .args .y .now)) (v (s f)) (length (s f .args .b .now)) (length (w f)) (w f) _ (s f .pre .5) (w-length f) (w-is f) (c .before .before .part-sums .ensures)
+    let f = c .before .before in
+    let s = f .before .before .before in
+    third-step (N s) (s .pre .0) (at (s .args .y .now)) (v s) (length (s .args .b .now)) (length (w s)) (w s) _ (s .pre .5) (w-length s) (s .pre .2) (f .part-sums .ensures)
 
 pub b-sums-spec : {M : Type 1} → statement M
-b-sums-spec =
-    tie.close
-    (tie.spec fill-rb-requires part-sums-requires same-length same-length-2 same-length-3 returns)
+b-sums-spec = tie.close (tie.spec part-sums-requires same-length same-length-2 returns)

@@ -1,6 +1,6 @@
 -- `fill_middle` meets its contract. The invariant: the first n inputs are those of the middle third.
-use mathlib.Core.Path.{_≡_, refl, _∙_}
-use Prim.Native.Nat.{_-_, _≤_}
+use mathlib.Core.Path.{_≡_, _∙_}
+use Prim.Native.Nat.{_-_, _/_, _≤_}
 use native.Mathlib.Omega.{arith}
 use lib.ListN.{length}
 use mir.Syntax.{w32}
@@ -50,9 +50,10 @@ same-length c = c .before .loop .inv .1 .room
 
 returns : tie.Need-returns Inv-loop μ-loop
 returns c =
-    let a = c .before .before .args in
-    let e : c .before .loop .n ≡ length (a .w .now) = omega arith in
-    filled-all (middle (length (a .y .now)) (at (a .y .now))) (length (a .w .now)) (c .before .loop .w) (a .w .now) (rw e at (c .before .loop .inv .1)) refl
+    let s = c .before .before in
+    let a = s .args in
+    let e : c .before .loop .n ≡ length (a .y .now) / 3 = omega (arith, s .pre .0) in
+    filled-all (middle (length (a .y .now)) (at (a .y .now))) (length (a .y .now) / 3) (c .before .loop .w) (a .w .now) (rw e at (c .before .loop .inv .1)) (s .pre .0)
 
 pub fill-middle-spec : {M : Type 1} → statement M
 fill-middle-spec =
