@@ -1,10 +1,10 @@
 -- Laws of one step on valid input: the tail's limit, and what the code leaves.
-use mathlib.Core.Path.{_≡_, ap, _∙_}
+use mathlib.Core.Path.{_≡_, sym, ap, _∙_}
 use mathlib.Core.List.{List, _++_}
 use Prim.Native.Nat.{ℕ, _+_, _*_, _/_, _^_, _≤_, _<_}
 use native.Mathlib.Omega.{arith}
 use lib.Dec.{T}
-use lib.ListN.{length, drop, List·getD-append}
+use lib.ListN.{length, drop}
 use lib.IntN.{ℤ, pos, natAbs, _+ℤ_}
 use Rattle.arithmetic.specs.Rounding.{rnd, clamp}
 use Rattle.arithmetic.specs.Lists.{at, table}
@@ -29,8 +29,8 @@ pub falling-size : (N n : ℕ) → natAbs (falling N n) ≤ 2 ^ 26
 unfolding falling
 falling-size N n = W-size N (N / 2 + n)
 
--- ---- V as the code has it: N numbers, and whatever room is left behind them
-module _ (N : ℕ) (t : T (tabled N)) (X vl rest : List ℤ) (small : (k : ℕ) → k < N / 2 → natAbs (at X k) ≤ 2 ^ 29)
+-- ---- V as the code has it
+module _ (N : ℕ) (t : T (tabled N)) (X vl : List ℤ) (small : (k : ℕ) → k < N / 2 → natAbs (at X k) ≤ 2 ^ 29)
     (is : vl ≡ table N (V′ N (rising N) (falling N) X)) where
   abbrev values : ℕ → ℤ
   values = V′ N (rising N) (falling N) X
@@ -38,28 +38,34 @@ module _ (N : ℕ) (t : T (tabled N)) (X vl rest : List ℤ) (small : (k : ℕ) 
   two : N / 2 + N / 2 ≡ N
   two = omega (arith, length-of N t .twelve)
 
-  entry : (i : ℕ) → i < N → at (vl ++ rest) i ≡ values i
-  entry i p =
-      List·getD-append vl rest (pos 0) i (omega (arith, ap length is, length-table values N))
-      ∙ ap (λ (l : List ℤ). at l i) is
-      ∙ getD-table values (pos 0) N i p
+  entry : (i : ℕ) → i < N → at vl i ≡ values i
+  entry i p = ap (λ (l : List ℤ). at l i) is ∙ getD-table values (pos 0) N i p
 
-  pub values-bounded : Bounded (N / 2) (vl ++ rest)
+  pub values-long : length vl ≡ N
+  values-long = ap length is ∙ length-table values N
+
+  pub values-bounded : Bounded (N / 2) vl
   values-bounded = record {
     within = λ i p. rw (entry i (omega arith))
         (V-size N (rising N) (falling N) (part-of N t) (λ n q. rising-size N n) (λ n q. falling-size N n) X small i (omega arith));
   }
 
-  pub hop-step : (tail out : List ℤ) → out ≡ table (N / 2) (λ i. clamp (rnd (at tail i +ℤ at (vl ++ rest) i) (N * 2 ^ 30))) → out ≡ hop N (rising N) (falling N) tail X
+  pub hop-step : (tail out : List ℤ) → out ≡ table (N / 2) (λ i. clamp (rnd (at tail i +ℤ at vl i) (N * 2 ^ 30))) → out ≡ hop N (rising N) (falling N) tail X
   unfolding hop sample
   hop-step tail out h =
       h
-      ∙ table-ext (N / 2) (λ i. clamp (rnd (at tail i +ℤ at (vl ++ rest) i) (N * 2 ^ 30))) (λ i. clamp (rnd (at tail i +ℤ values i) (N * 2 ^ 30)))
+      ∙ table-ext (N / 2) (λ i. clamp (rnd (at tail i +ℤ at vl i) (N * 2 ^ 30))) (λ i. clamp (rnd (at tail i +ℤ values i) (N * 2 ^ 30)))
       (λ i p. ap (λ (z : ℤ). clamp (rnd (at tail i +ℤ z) (N * 2 ^ 30))) (entry i (omega arith)))
 
-  pub tail-step : (tail r : List ℤ) → r ≡ table (N / 2) (λ i. at (vl ++ rest) (N / 2 + i)) ++ drop (N / 2) tail → r ≡ newTail N (rising N) (falling N) tail X
+  pub tail-step : (tail r : List ℤ) → r ≡ table (N / 2) (λ i. at vl (N / 2 + i)) ++ drop (N / 2) tail → r ≡ newTail N (rising N) (falling N) tail X
   unfolding newTail
   tail-step tail r h =
       h
       ∙ ap (λ (l : List ℤ). l ++ drop (N / 2) tail)
-      (table-ext (N / 2) (λ i. at (vl ++ rest) (N / 2 + i)) (λ i. values (N / 2 + i)) (λ i p. entry (N / 2 + i) (omega (arith, two))))
+      (table-ext (N / 2) (λ i. at vl (N / 2 + i)) (λ i. values (N / 2 + i)) (λ i p. entry (N / 2 + i) (omega (arith, two))))
+
+-- ---- a step at a length under another name, of the part of the coefficients that is lent, which is all of them
+pub step-at : (n N : ℕ) (tail X X′ tail′ out : List ℤ) → n ≡ N → X′ ≡ X →
+    (tail′ ≡ newTail N (rising N) (falling N) tail X′) × (out ≡ hop N (rising N) (falling N) tail X′) →
+    (tail′ ≡ newTail n (rising n) (falling n) tail X) × (out ≡ hop n (rising n) (falling n) tail X)
+step-at n N tail X X′ tail′ out e w h = rw (e, sym w) h

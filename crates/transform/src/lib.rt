@@ -106,7 +106,7 @@ fn inverse_block(n: usize, left: &[i32], right: &[i32], x: &[i32], t: &[i64], v:
     unfold::values(left, right, t, v);
 }
 
-fn inverse_12(x: &[i32], v: &mut [i64])
+pub fn inverse_12(x: &[i32], v: &mut [i64])
     requires { ⌜ (length (now x) ≡ 6) × Small (now x) (2 ^ 29) × (length (now v) ≡ 12) ⌝ }
     ensures { λ _. ⌜ now (v .exit) ≡ table 12 (V′ 12 (rising 12) (falling 12) (now (x .entry))) ⌝ }
 {
@@ -115,7 +115,7 @@ fn inverse_12(x: &[i32], v: &mut [i64])
     inverse_block(12, &tables::RISE_12, &tables::FALL_12, x, &t, v);
 }
 
-fn inverse_24(x: &[i32], v: &mut [i64])
+pub fn inverse_24(x: &[i32], v: &mut [i64])
     requires { ⌜ (length (now x) ≡ 12) × Small (now x) (2 ^ 29) × (length (now v) ≡ 24) ⌝ }
     ensures { λ _. ⌜ now (v .exit) ≡ table 24 (V′ 24 (rising 24) (falling 24) (now (x .entry))) ⌝ }
 {
@@ -124,7 +124,7 @@ fn inverse_24(x: &[i32], v: &mut [i64])
     inverse_block(24, &tables::RISE_24, &tables::FALL_24, x, &t, v);
 }
 
-fn inverse_36(x: &[i32], v: &mut [i64])
+pub fn inverse_36(x: &[i32], v: &mut [i64])
     requires { ⌜ (length (now x) ≡ 18) × Small (now x) (2 ^ 29) × (length (now v) ≡ 36) ⌝ }
     ensures { λ _. ⌜ now (v .exit) ≡ table 36 (V′ 36 (rising 36) (falling 36) (now (x .entry))) ⌝ }
 {
@@ -133,7 +133,7 @@ fn inverse_36(x: &[i32], v: &mut [i64])
     inverse_block(36, &tables::RISE_36, &tables::FALL_36, x, &t, v);
 }
 
-fn inverse_72(x: &[i32], v: &mut [i64])
+pub fn inverse_72(x: &[i32], v: &mut [i64])
     requires { ⌜ (length (now x) ≡ 36) × Small (now x) (2 ^ 29) × (length (now v) ≡ 72) ⌝ }
     ensures { λ _. ⌜ now (v .exit) ≡ table 72 (V′ 72 (rising 72) (falling 72) (now (x .entry))) ⌝ }
 {

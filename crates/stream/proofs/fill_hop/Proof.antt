@@ -18,10 +18,10 @@ abbrev value : ℕ → List ℤ → List ℤ → ℕ → ℤ
 value n tail v i = clamp (rnd (at tail i +ℤ at v i) (n * 2 ^ 30))
 
 abbrev Inv-loop : tie.InvT-loop
-Inv-loop n tail v out₀ i₀ i-end out i = (i ≤ length out₀) × Filled (value n tail v) i out out₀
+Inv-loop n tail v out₀ i₀ i-end out i = (i ≤ n / 2) × Filled (value n tail v) i out out₀
 
 abbrev μ-loop : tie.MeasureT-loop
-μ-loop n tail v out₀ i₀ i-end out i = length out₀ - i
+μ-loop n tail v out₀ i₀ i-end out i = n / 2 - i
 
 loop-holds : tie.Need-loop-holds Inv-loop μ-loop
 loop-holds c = (omega arith, filled-none (value (c .args .n) (c .args .tail .now) (c .args .v .now)) (c .args .out .now))
@@ -29,14 +29,14 @@ loop-holds c = (omega arith, filled-none (value (c .args .n) (c .args .tail .now
 mul-sample : tie.Need-mul-sample Inv-loop μ-loop
 mul-sample c = omega arith
 
-element-copy-out-sample : tie.Need-element-copy-out-sample Inv-loop μ-loop
-element-copy-out-sample c = omega (arith, c .before .before .pre .2)
+shared-slice-copy-out-sample : tie.Need-shared-slice-copy-out-sample Inv-loop μ-loop
+shared-slice-copy-out-sample c = omega (arith, c .before .before .pre .3)
 
 mul-sample-2 : tie.Need-mul-sample-2 Inv-loop μ-loop
 mul-sample-2 c = omega arith
 
-element-copy-out-sample-2 : tie.Need-element-copy-out-sample-2 Inv-loop μ-loop
-element-copy-out-sample-2 c = omega (arith, c .before .before .before .pre .2)
+shared-slice-copy-out-sample-2 : tie.Need-shared-slice-copy-out-sample-2 Inv-loop μ-loop
+shared-slice-copy-out-sample-2 c = omega (arith, c .before .before .before .pre .5)
 
 sample-requires : tie.Need-sample-requires Inv-loop μ-loop
 sample-requires c κs =
@@ -44,15 +44,15 @@ sample-requires c κs =
     let i = c .before .before .before .loop .i in (
       s .pre .0,
       s .pre .1,
-      rw (toZ-ofZ {w = w64} (record { sfits = c .before .sample-arg .given })) (s .pre .3 .within i (omega (arith, s .pre .2))),
-      rw (toZ-ofZ {w = w64} (record { sfits = c .sample-arg2 .given })) (s .pre .4 .within i (omega (arith, s .pre .2))),
+      rw (toZ-ofZ {w = w64} (record { sfits = c .before .sample-arg .given })) (s .pre .4 .within i (omega arith)),
+      rw (toZ-ofZ {w = w64} (record { sfits = c .sample-arg2 .given })) (s .pre .6 .within i (omega arith)),
     )
 
-mul-t17 : tie.Need-mul-t17 Inv-loop μ-loop
-mul-t17 c = omega arith
+mul-t15 : tie.Need-mul-t15 Inv-loop μ-loop
+mul-t15 c = omega arith
 
 slice-set-from-out : tie.Need-slice-set-from-out Inv-loop μ-loop
-slice-set-from-out c = omega (arith, c .before .before .before .before .loop .inv .1 .room)
+slice-set-from-out c = omega (arith, c .before .before .before .before .loop .inv .1 .room, c .before .before .before .before .before .pre .2)
 
 add-i : tie.Need-add-i Inv-loop μ-loop
 add-i c = omega arith
@@ -66,7 +66,7 @@ loop-again c =
     let a = l .before .args in (
       omega arith,
       filled-more (value (a .n) (a .tail .now) (a .v .now)) (l .loop .i) (l .loop .out) (a .out .now) _ (l .loop .inv .1)
-          (omega (arith, l .loop .inv .1 .room))
+          (omega (arith, l .loop .inv .1 .room, l .before .pre .2))
           (toZ-ofZ {w = w16} {z = c .sample .result} (record { sfits = c .sample .ok }) ∙ c .sample .ensures
           ∙ rw (toZ-ofZ {w = w64} (record { sfits = c .before .before .sample-arg .given }), toZ-ofZ {w = w64} (record { sfits = c .before .sample-arg2 .given }))),
     )
@@ -78,7 +78,7 @@ returns : tie.Need-returns Inv-loop μ-loop
 returns c =
     let s = c .before .before in
     let a = s .args in
-    let e : c .before .loop .i ≡ a .n / 2 = omega (arith, s .pre .2) in
+    let e : c .before .loop .i ≡ a .n / 2 = omega arith in
     filled-all (value (a .n) (a .tail .now) (a .v .now)) (a .n / 2) (c .before .loop .out) (a .out .now) (rw e at (c .before .loop .inv .1)) (s .pre .2)
 
 pub fill-hop-spec : {M : Type 1} → statement M
@@ -89,11 +89,11 @@ fill-hop-spec =
     μ-loop
     loop-holds
     mul-sample
-    element-copy-out-sample
+    shared-slice-copy-out-sample
     mul-sample-2
-    element-copy-out-sample-2
+    shared-slice-copy-out-sample-2
     sample-requires
-    mul-t17
+    mul-t15
     slice-set-from-out
     add-i
     loop-less

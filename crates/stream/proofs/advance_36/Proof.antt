@@ -1,0 +1,40 @@
+-- `advance_36` meets its contract: V by the inverse of its length, and the step from it.
+use Rattle.arithmetic.specs.Lists.{every}
+use Rattle.cosine.specs.Kernels.{tabled, lengths}
+use borrow.Author.Needs.{needs}
+use Rattle.stream.proofs.advance_36.Statement.{statement}
+use Rattle.stream.proofs.advance_36.Tie as tie
+
+slice-aggregate-inverse-36 : tie.Need-slice-aggregate-inverse-36
+slice-aggregate-inverse-36 c = search needs
+
+inverse-36-requires : tie.Need-inverse-36-requires
+inverse-36-requires c κs = search needs
+
+slice-aggregate-settle : tie.Need-slice-aggregate-settle
+slice-aggregate-settle c = search needs
+
+settle-requires : tie.Need-settle-requires
+unfolding tabled every lengths
+settle-requires c κs = search needs
+
+same-length : tie.Need-same-length
+same-length c = search needs
+
+same-length-2 : tie.Need-same-length-2
+same-length-2 c = search needs
+
+returns : tie.Need-returns
+returns c = search needs
+
+pub advance-36-spec : {M : Type 1} → statement M
+advance-36-spec =
+    tie.close
+    (tie.spec
+    slice-aggregate-inverse-36
+    inverse-36-requires
+    slice-aggregate-settle
+    settle-requires
+    same-length
+    same-length-2
+    returns)
