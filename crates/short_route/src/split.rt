@@ -266,24 +266,3 @@ pub fn split_72(y: &[i32], a: &mut [i64], plus: &mut [i64], minus: &mut [i64])
     g_sums(y, &w, &transform::tables::ROWS_24, &mut z, &mut g);
     outer_sums(y, &b, &g, plus, minus);
 }
-
-// The split of y at any length: each lends its own tables.
-pub fn split(y: &[i32], a: &mut [i64], plus: &mut [i64], minus: &mut [i64])
-    requires { ⌜ T (offered (length (now y))) × Small (now y) (2 ^ 23) × (length (now a) ≡ length (now y) / 6) × (length (now plus) ≡ length (now y) / 6) × (length (now minus) ≡ length (now y) / 6) ⌝ }
-    ensures { λ _. ⌜ Unrounded (length (now (y .entry))) (at (now (y .entry))) (now (a .exit)) (now (plus .exit)) (now (minus .exit)) ⌝ }
-{
-    let n = y.len();
-    if n == 12 {
-        split_12(y, a, plus, minus);
-        return;
-    }
-    if n == 24 {
-        split_24(y, a, plus, minus);
-        return;
-    }
-    if n == 36 {
-        split_36(y, a, plus, minus);
-        return;
-    }
-    split_72(y, a, plus, minus);
-}

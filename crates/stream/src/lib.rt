@@ -106,7 +106,7 @@ fn advance_72(x: &[i32], tail: &mut [i64], out: &mut [i16])
 }
 
 // One step on valid input, in place: the hop into `out`, and the new tail in `tail`.
-pub fn advance_tail(n: usize, x: &[i32], tail: &mut [i64], out: &mut [i16])
+fn advance_tail(n: usize, x: &[i32], tail: &mut [i64], out: &mut [i16])
     requires { ⌜ T (tabled n) × (length (now x) ≡ n / 2) × Small (now x) (2 ^ 29) × (length (now tail) ≡ storage) × Bounded (n / 2) (now tail) × (length (now out) ≡ n / 2) ⌝ }
     ensures { λ _. ⌜ (now (tail .exit) ≡ newTail n (rising n) (falling n) (now (tail .entry)) (now (x .entry))) × (now (out .exit) ≡ hop n (rising n) (falling n) (now (tail .entry)) (now (x .entry))) ⌝ }
 {
