@@ -3,6 +3,9 @@ python3 vectors/tables.py transform > crates/transform/src/tables.rt, and the sa
 import sys
 from bank import LENGTHS, C, W
 
+# what is added to the kernel's numbers and to the rotation's, so that none is negative
+KERNEL, ROTATION = 2**26, 2**27
+
 
 def F(N, j, k):
     return C(72 // N * (2 * j + 1) * (2 * k + 1))
@@ -22,12 +25,14 @@ def const(name, values, wide=8):
 
 def rows(N):
     M = N // 2
-    const(f"ROWS_{N}", [F(N, k, j) for k in range(M) for j in range(M)])
+    const(f"ROWS_{N}", [F(N, k, j) + KERNEL for j in range(M) for k in range(M)])
+    const(f"BASE_{N}", [sum(F(N, k, j) for j in range(M)) for k in range(M)])
 
 
 def transform():
     print("// The halves of the sine window and the rows of the folded kernel, a table for each length, so that a short block never pays for a long one's.")
-    print("// Entry k × M + j of ROWS_N is F(k,j). The proofs hold each table against its definition.")
+    print("// Entry j × M + k of ROWS_N is F(k,j) + 2^26, which is never negative, and entry k of BASE_N the sum over j of F(k,j). The proofs hold each")
+    print("// table against its definition.")
     for N in LENGTHS:
         M = N // 2
         const(f"RISE_{N}", [W(N, n) for n in range(M)])
@@ -36,16 +41,16 @@ def transform():
 
 
 def short_route():
-    print("// The rows of the folded kernel of the thirds of 12 and 24 (those of 36 and 72 are lengths themselves), and the cosines beside e and f in rB(n)")
-    print("// and rC(n), n from 0 to N/3 - 1. The proofs hold each table against its definition.")
+    print("// The lifted kernel of the thirds of 12 and 24 (those of 36 and 72 are lengths themselves), and the cosines beside e and f in rB(n)")
+    print("// and rC(n), n from 0 to N/3 - 1, each with 2^27 added, so that none is negative. The proofs hold each table against its definition.")
     rows(4)
     rows(8)
     for N in LENGTHS:
         angles = [s(N, n) for n in range(N // 3)]
-        const(f"EB_{N}", [C(72 - t) for t in angles])
-        const(f"FB_{N}", [C(t - 24) + C(t + 24) for t in angles])
-        const(f"EC_{N}", [C(t) for t in angles])
-        const(f"FC_{N}", [C(48 - t) + C(96 - t) for t in angles])
+        const(f"EB_{N}", [C(72 - t) + ROTATION for t in angles])
+        const(f"FB_{N}", [C(t - 24) + C(t + 24) + ROTATION for t in angles])
+        const(f"EC_{N}", [C(t) + ROTATION for t in angles])
+        const(f"FC_{N}", [C(48 - t) + C(96 - t) + ROTATION for t in angles])
 
 
 {"transform": transform, "short_route": short_route}[sys.argv[1]]()

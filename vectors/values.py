@@ -20,14 +20,16 @@ def line(word, *fields):
 line("", *LENGTHS)
 for k in (18, 26, 28, 29):
     for a in SUMS:
-        line("shift", k, a, rnd(a, 2**k))
+        if abs(a) <= 2**62:
+            line("shift", k, a, rnd(a, 2**k))
 for i, a in enumerate(SUMS):
-    line("clamp", i, a, clamp(a))
+    if abs(a) < 2**33:
+        line("clamp", i, a, clamp(a))
 for t in range(600):
     line("C", t, C(t))
 for N in LENGTHS:
     for a in SUMS:
-        line("scale", N, a, rnd(a, N * 2**30))
+        line("scale", N, a, clamp(rnd(a, N * 2**30)))
     line("W", *[W(N, n) for n in range(N)])
     for n in range(N):
         line("K", *[K(N, n, k) for k in range(N // 2)])

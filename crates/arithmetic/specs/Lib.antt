@@ -5,7 +5,7 @@ pub mod IntegerLaws
 pub mod RingLaws
 pub mod OrderLaws
 pub mod RoundingLaws
-pub mod RangeLaws
 pub mod SumLaws
 pub mod ListLaws
 pub mod TestLaws
+pub mod SampleLaws

@@ -9,7 +9,7 @@ use native.Mathlib.Omega.{arith}
 use native.Mathlib.Decide.{decLt}
 use lib.IntN.{ℤ, pos}
 use lib.ListN.{length-drop, take, length, set, drop, getD, length-append, List·getD-append, drop-of-length-le, length-set}
-use lib.Seq.{length-take-le, getD-take, getD-drop, set-at, drop-cons, append-snoc, getD-at}
+use lib.Seq.{length-take-le, getD-take, getD-drop, getD-append-add, set-at, drop-cons, append-snoc, getD-at}
 use Rattle.arithmetic.specs.Lists.{at, Small, table}
 
 module _ {A : Type 0} (f : ℕ → A) where
@@ -58,6 +58,15 @@ module _ {A : Type 0} (f : ℕ → A) where
 
   pub filled-all : (k : ℕ) (out out₀ : List A) → Filled f k out out₀ → length out₀ ≡ k → out ≡ table k f
   filled-all k out out₀ so e = so .is ∙ rw (drop-of-length-le out₀ {i = k} (omega arith)) (append-nil (table k f))
+
+  -- the next place is as it was
+  pub filled-rest : (k : ℕ) (out out₀ : List A) (d : A) → Filled f k out out₀ → getD out k d ≡ getD out₀ k d
+  filled-rest k out out₀ d so =
+      let e : length (table k f) + 0 ≡ k = omega (arith, length-table f k) in
+      let n : k + 0 ≡ k = omega arith in
+      ap (λ (l : List A). getD l k d) (so .is)
+      ∙ rw e at (getD-append-add (table k f) (drop k out₀) 0 d)
+      ∙ rw n at (getD-drop k out₀ 0 d)
 
 -- ---- a part of a list: m entries from place p
 module _ (xs : List ℤ) (p n m : ℕ) (is : n ≡ m) (fits : p + m ≤ length xs) where

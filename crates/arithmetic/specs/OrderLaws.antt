@@ -54,9 +54,6 @@ ltZ-not a b e = by (leZ b a) (λ t. clashℤ (ltZ-true a b e) (leZ-yes t))
     by true u = absurd (u tt)
     by false u = refl
 
-pub leZ-true : (a b : ℤ) → leZ a b ≡ true → a ≤ℤ b
-leZ-true a b e = leZ-yes (rw e tt)
-
 -- ---- |z|
 pub abs-is : (z : ℤ) → natAbs z ≡ pp z + np z
 abs-is (pos n) = omega arith

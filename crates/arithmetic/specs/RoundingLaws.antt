@@ -1,15 +1,15 @@
 -- Laws of floor, rnd and clamp. Nothing above this crate opens their text.
-use mathlib.Core.Path.{_≡_, refl, sym, ap, _∙_}
+use mathlib.Core.Path.{_≡_, refl}
 use mathlib.Core.Bool.{Bool, true, false}
 use mathlib.Core.Logic.{⊎-elim}
-use Prim.Native.Nat.{ℕ, suc, _+_, _*_, _/_, _%_, _≤_, _<_}
-use native.Mathlib.Nat.{div-add-mod, mod-lt, mul-le-mul-left, mul-pos, mul-le-mul-right, div-le-self, mul-div-le}
+use Prim.Native.Nat.{ℕ, _+_, _*_, _/_, _≤_, _<_}
+use native.Mathlib.Nat.{div-le-self, div-add-mod, mod-lt, mul-le-mul-left, mul-pos, mul-le-mul-right, mul-div-le}
 use native.Mathlib.Omega.{arith, by-contra}
-use lib.IntN.{ℤ, pos, negsuc, negℤ, natAbs, _+ℤ_, _-ℤ_, _*ℤ_}
-use lib.Signed.{_≤ℤ_, _<ℤ_, shrZ, quotZ, remZ, ltZ, ≤ℤ-refl}
+use lib.IntN.{ℤ, pos, negsuc, natAbs, _+ℤ_, _-ℤ_, _*ℤ_}
+use lib.Signed.{_≤ℤ_, _<ℤ_, shrZ, ltZ, ≤ℤ-refl}
 use Rattle.arithmetic.specs.Rounding.{floor, rnd, clamp, least, largest}
 use Rattle.arithmetic.specs.IntegerLaws.{ints, posints, zarith}
-use Rattle.arithmetic.specs.OrderLaws.{bounds, mul-le, <ℤ-≤ℤ, ≤ℤ-antisym, abs-mul, abs-neg, abs-is, ltZ-true, ltZ-false}
+use Rattle.arithmetic.specs.OrderLaws.{bounds, mul-le, <ℤ-≤ℤ, ≤ℤ-antisym, abs-mul, abs-is, ltZ-true, ltZ-false}
 
 -- ---- floor
 -- q is a/b rounded down: b q ≤ a < b q + b
@@ -45,33 +45,6 @@ unfolding floor
 floor-shr (pos a) b = refl
 floor-shr (negsuc a) b = refl
 
--- the machine's quotient cuts toward zero: where its remainder is negative it is one more than the floor
-pub quot-less : (a : ℤ) {d : ℕ} → 0 < d → ltZ (remZ a (pos d)) (pos 0) ≡ true → quotZ a (pos d) -ℤ pos 1 ≡ floor a d
-quot-less (pos a) {d} p h = absurd (omega (arith, simp ints at (ltZ-true (pos (a % d)) (pos 0) h)))
-quot-less (negsuc a) {d} p h =
-    let r = simp ints at (ltZ-true (negℤ (pos (suc a % d))) (pos 0) h) in
-    let m = mod-lt (suc a) p in
-    floor-unique
-    (record { low = simp ints (omega (arith, div-add-mod (suc a) d)); high = simp ints (omega (arith, div-add-mod (suc a) d)) })
-    (floor-is (negsuc a) p)
-
-pub quot-same : (a : ℤ) {d : ℕ} → 0 < d → ltZ (remZ a (pos d)) (pos 0) ≡ false → quotZ a (pos d) ≡ floor a d
-unfolding floor
-quot-same (pos a) {d} p h = refl
-quot-same (negsuc a) {d} p h =
-    let r = simp ints at (ltZ-false (negℤ (pos (suc a % d))) (pos 0) h) in
-    floor-unique
-    (record { low = simp ints (omega (arith, div-add-mod (suc a) d)); high = simp ints (omega (arith, div-add-mod (suc a) d)) })
-    (floor-is (negsuc a) p)
-
-pub quot-abs : (a : ℤ) (d : ℕ) → natAbs (quotZ a (pos d)) ≤ natAbs a
-quot-abs (pos a) d = div-le-self a d
-quot-abs (negsuc a) d = rw (abs-neg (pos (suc a / d))) (div-le-self (suc a) d)
-
-pub rem-abs : (a : ℤ) {d : ℕ} → 0 < d → natAbs (remZ a (pos d)) < d
-rem-abs (pos a) {d} p = mod-lt a p
-rem-abs (negsuc a) {d} p = rw (abs-neg (pos (suc a % d))) (mod-lt (suc a) p)
-
 pub floor-abs : (a : ℤ) (b : ℕ) → natAbs (floor a b) ≤ natAbs a
 unfolding floor
 floor-abs (pos a) b = div-le-self a b
@@ -95,12 +68,6 @@ floor-floor a c {b} {m} p q r = floor-unique (twice a c b m (floor a b) (floor (
           high = simp posints (omega (arith, simp posints at (F .high), simp posints at (mul-le b up)));
         }
 
-pub floor-by : (a : ℤ) {b m : ℕ} → 0 < b → 0 < m → floor (floor a b) m ≡ floor a (b * m)
-floor-by a {b} {m} p q =
-    let e : floor a b +ℤ pos 0 ≡ floor a b = simp ints (omega zarith) in
-    let f : a +ℤ pos b *ℤ pos 0 ≡ a = simp ints (omega zarith) in
-    ap (λ (z : ℤ). floor z m) (sym e) ∙ floor-floor a (pos 0) {b = b} {m = m} p q (mul-pos p q) ∙ ap (λ (z : ℤ). floor z (b * m)) f
-
 -- ---- rnd, for every b above 0, even or odd
 pub rnd-near : (a : ℤ) {b : ℕ} → 0 < b → natAbs (pos b *ℤ rnd a b -ℤ a) ≤ b / 2
 unfolding rnd
@@ -115,6 +82,13 @@ rnd-mono {a} {c} {b} p h = below (simp ints (omega zarith)) (floor-is (a +ℤ po
 pub rnd-exact : (q : ℤ) {b : ℕ} → 0 < b → rnd (pos b *ℤ q) b ≡ q
 unfolding rnd
 rnd-exact q {b} p = floor-unique (floor-is (pos b *ℤ q +ℤ pos (b / 2)) p) (record { low = simp posints (omega arith); high = simp posints (omega arith) })
+
+-- rounding by an even number: its half is added, and the floor taken
+pub rnd-half : (a : ℤ) (h : ℕ) {b : ℕ} → 2 * h ≡ b → floor (a +ℤ pos h) b ≡ rnd a b
+unfolding rnd
+rnd-half a h {b} e =
+    let f : b / 2 ≡ h = omega (arith, e) in
+    rw f
 
 -- rounding by 2 h m, after a floor by h: the half, h m, comes out as m
 pub rnd-after : (a : ℤ) (h m : ℕ) → 0 < h → 0 < m → floor (floor a h +ℤ pos m) (2 * m) ≡ rnd a (h * (2 * m))
@@ -143,20 +117,20 @@ pub sample-abs : {s : ℤ} → Sample s → natAbs s ≤ 32768
 sample-abs {s} S = simp bounds (omega (arith, simp ints at (S .low), simp ints at (S .high)))
 
 module _ (z : ℤ) where
-  pub clamp-low : ltZ z least ≡ true → clamp z ≡ least
+  clamp-low : ltZ z least ≡ true → clamp z ≡ least
   unfolding clamp
   clamp-low h = rw h
 
-  pub clamp-high : ltZ z least ≡ false → ltZ largest z ≡ true → clamp z ≡ largest
+  clamp-high : ltZ z least ≡ false → ltZ largest z ≡ true → clamp z ≡ largest
   unfolding clamp
   clamp-high h k = rw (h, k)
 
-  pub clamp-between : ltZ z least ≡ false → ltZ largest z ≡ false → clamp z ≡ z
+  clamp-between : ltZ z least ≡ false → ltZ largest z ≡ false → clamp z ≡ z
   unfolding clamp
   clamp-between h k = rw (h, k)
 
   -- by the three cases
-  by-range : (P : ℤ → Type 0) → (z <ℤ least → P least) → (largest <ℤ z → P largest) → (Sample z → P z) → P (clamp z)
+  pub by-range : (P : ℤ → Type 0) → (z <ℤ least → P least) → (largest <ℤ z → P largest) → (Sample z → P z) → P (clamp z)
   by-range P f g h = go (ltZ z least) (ltZ largest z) refl refl
     where
       go : (a b : Bool) → ltZ z least ≡ a → ltZ largest z ≡ b → P (clamp z)

@@ -127,10 +127,3 @@ sumℕ-le (suc n) B f h = omega (arith, sumℕ-le n B f (λ i p. h i (omega arit
 -- the second half forwards
 pub sum-two : (h : ℕ) (f : ℕ → ℤ) → sum (h + h) f ≡ sum h (λ i. f i +ℤ f (h + i))
 sum-two h f = sum-split h h f ∙ sym (sum-add h f (λ i. f (h + i)))
-
--- the second half backwards
-pub sum-two-back : (h : ℕ) (f : ℕ → ℤ) → sum (h + h) f ≡ sum h (λ i. f i +ℤ f (h + (h - suc i)))
-sum-two-back h f =
-    sum-split h h f
-    ∙ ap (λ (x : ℤ). sum h f +ℤ x) (sum-rev h (λ i. f (h + i)))
-    ∙ sym (sum-add h f (λ i. f (h + (h - suc i))))

@@ -2,78 +2,51 @@
 // No function here is a public call: `transform` and `stream` call them, each under its requires.
 ghost use mathlib.Core.Path.{_≡_};
 ghost use Prim.Native.Nat.{_≤_, _<_, _*_, _^_};
-ghost use lib.IntN.{natAbs};
+ghost use lib.IntN.{pos, negℤ, natAbs};
+ghost use lib.Signed.{_≤ℤ_, _<ℤ_};
 ghost use Rattle.arithmetic.specs.Rounding.{floor, rnd, clamp};
+ghost use Rattle.arithmetic.specs.SampleLaws.{limited};
 
-// rnd(a / 2^k). The half is added after a shift by k - 1, so that no sum can overflow.
+// rnd(a / 2^k): the half is added, and the shift takes the floor.
 pub fn rnd_shift(a: i64, k: u32) -> i64
-    requires { ⌜ (2 ≤ k) × (k < 63) ⌝ }
+    requires { ⌜ (2 ≤ k) × (k < 63) × (natAbs a ≤ 2 ^ 62) ⌝ }
     ensures { λ r. ⌜ r ≡ rnd a (2 ^ k) ⌝ }
 {
-    ((a >> (k - 1)) + 1) >> 1
+    (a + (1i64 << (k - 1))) >> k
 }
 
-// The floor of a / d: `/` cuts toward zero, so a quotient with a negative remainder is one too large.
-fn floor_div(a: i64, d: usize) -> i64
-    requires { ⌜ (0 < d) × (d < 2 ^ 63) × (natAbs a < 2 ^ 63) ⌝ }
-    ensures { λ r. ⌜ r ≡ floor a d ⌝ }
+// b, limited to least..=most.
+fn limited(b: i64, least: i64, most: i64) -> i64
+    ensures { λ r. ⌜ r ≡ limited least most b ⌝ }
 {
-    let e = d as i64;
-    let q = a / e;
-    let r = a % e;
-    if r < 0 {
-        return q - 1;
+    if b < least {
+        return least;
     }
-    q
+    if most < b {
+        return most;
+    }
+    b
 }
 
-// The floor of a / 3: a divisor that the compiler knows costs a multiplication, another costs a division.
-fn third(a: i64) -> i64
-    requires { ⌜ natAbs a < 2 ^ 63 ⌝ }
-    ensures { λ r. ⌜ r ≡ floor a 3 ⌝ }
+// The floor of c / 2n where it is a sample: c is raised to a number without a sign, and the quotient lowered by as much.
+fn quotient(c: i64, n: usize) -> i16
+    requires { ⌜ (0 < n) × (n < 2 ^ 15) × (negℤ (pos (65536 * n)) ≤ℤ c) × (c <ℤ pos (65536 * n)) ⌝ }
+    ensures { λ r. ⌜ r ≡ floor c (2 * n) ⌝ }
 {
-    floor_div(a, 3)
+    let raised = c + (65536 * n) as i64;
+    let d = raised as u32 / (2 * n) as u32;
+    (d as i32 - 32768) as i16
 }
 
-// The floor of a / 2n. Twice a tabled length is 3 or 9 times a power of two.
-fn floor_double(a: i64, n: usize) -> i64
-    requires { ⌜ (0 < n) × (n < 2 ^ 16) × (natAbs a < 2 ^ 63) ⌝ }
-    ensures { λ r. ⌜ r ≡ floor a (2 * n) ⌝ }
+// A sample of a hop: rnd(a / (n × 2^30)), clamped. A shift by 29 goes first, so that no sum can overflow. The clamp goes next, to the numbers
+// whose quotient is a sample, so that the division is of a small number without a sign: where the compiler knows n, one multiplication.
+pub fn sample(a: i64, n: usize) -> i16
+    requires { ⌜ (0 < n) × (n < 2 ^ 15) ⌝ }
+    ensures { λ r. ⌜ r ≡ clamp (rnd a (n * 2 ^ 30)) ⌝ }
 {
-    if n == 12 {
-        return third(a >> 3);
-    }
-    if n == 24 {
-        return third(a >> 4);
-    }
-    if n == 36 {
-        return third(third(a >> 3));
-    }
-    if n == 72 {
-        return third(third(a >> 4));
-    }
-    floor_div(a, 2 * n)
-}
-
-// rnd(a / (n × 2^30)). A shift by 29 goes first, so that no sum can overflow and the division is of a small number.
-pub fn rnd_scaled(a: i64, n: usize) -> i64
-    requires { ⌜ (0 < n) × (n < 2 ^ 16) ⌝ }
-    ensures { λ r. ⌜ r ≡ rnd a (n * 2 ^ 30) ⌝ }
-{
-    floor_double((a >> 29) + n as i64, n)
-}
-
-// A sample's range: -32,768 .. 32,767.
-pub fn clamp(v: i64) -> i16
-    ensures { λ r. ⌜ r ≡ clamp v ⌝ }
-{
-    if v < -32768 {
-        return -32768;
-    }
-    if 32767 < v {
-        return 32767;
-    }
-    v as i16
+    let b = (a >> 29) + n as i64;
+    let edge = (65536 * n) as i64;
+    quotient(limited(b, -edge, edge - 1), n)
 }
 
 // The size of v: its number without its sign. The least i64 has one too.

@@ -1,6 +1,6 @@
 -- Laws of the calls for C: lists that a state is made of, and the numbers by their causes.
 use mathlib.Core.Path.{_≡_, refl, sym, ap, _∙_}
-use mathlib.Core.Bool.{Bool, true, false}
+use mathlib.Core.Bool.{Bool, true, false, cond}
 use mathlib.Core.List.{List, [], _∷_, _++_, append-nil}
 use Prim.Native.Nat.{ℕ, _-_, _≤_}
 use native.Mathlib.Nat.{not-suc-le-zero}
@@ -8,16 +8,17 @@ use native.Mathlib.Omega.{arith}
 use borrow.Author.Tests.{eq-eqb, ne-eqb}
 use borrow.Rule.Slice.PartMut.{putMid}
 use lib.Dec.{T, eqb}
-use lib.ListN.{length, length-drop, take, drop, set, replicate, drop-of-length-le}
+use lib.ListN.{length, length-drop, take, drop, set, drop-of-length-le, take-append-drop}
 use lib.Seq.{ext-getD}
 use lib.IntN.{ℤ, pos}
 use Rattle.arithmetic.specs.Lists.{at, table}
 use Rattle.arithmetic.specs.ListLaws.{length-table, getD-table}
 use Rattle.cosine.specs.Kernels.{tabled}
 use Rattle.stream.specs.Synthesis as Stream
-use Rattle.stream.specs.Steps.{next, hop}
+use Rattle.stream.specs.Steps.{next}
 use Rattle.filter_bank.specs.Streams as S
-use Rattle.c_face.specs.Face.{entries, streamIn, freshCode, freshState, stepCode, stepState, stepOut}
+use Rattle.filter_bank.specs.StreamLaws.{place-code, place-out}
+use Rattle.c_face.specs.Face.{entries, lengthIn, streamIn, freshCode, freshState, stepCode, stepState, stepOut}
 
 -- a list is the table of its entries
 pub table-at : (xs : List ℤ) (m : ℕ) → length xs ≡ m → table m (at xs) ≡ xs
@@ -78,20 +79,32 @@ module _ (state x out : List ℤ) where
   unfolding stepCode stepState stepOut
   step-2 a = (rw (ne-eqb (length state) entries a), rw (ne-eqb (length state) entries a), rw (ne-eqb (length state) entries a))
 
+  -- what the bank answers in place, on the part behind entry 0, is the call's answer
   module _ (a : length state ≡ entries) where
-    -- the bank's answer is the call's
-    pub step-code : S.stepCode (streamIn state) x out ≡ stepCode state x out
-    unfolding stepCode
-    step-code = rw (eq-eqb (length state) entries a)
+    abbrev N : ℕ
+    N = lengthIn (at state 0)
 
-    pub step-out : S.stepOut (streamIn state) x out ≡ stepOut state x out
-    unfolding stepOut
-    step-out = rw (eq-eqb (length state) entries a)
+    abbrev tail : List ℤ
+    tail = drop 1 state
 
-    pub step-kept : (c : ℕ) → eqb c 0 ≡ false → c ≡ S.stepCode (streamIn state) x out → state ≡ stepState state x out
-    unfolding stepState
-    step-kept c n e = rw (sym step-code, sym e, n)
+    rest : length tail ≡ Stream.storage
+    rest = omega (arith, length-drop 1 state, a)
 
-    pub step-next : (c : ℕ) → c ≡ 0 → c ≡ S.stepCode (streamIn state) x out → take 1 state ++ (S.step (streamIn state) x out) .stream .tail ≡ stepState state x out
-    unfolding stepState S.step
-    step-next c z e = let n : S.stepCode (streamIn state) x out ≡ 0 = sym e ∙ z in rw (sym step-code, n)
+    pub step-code : S.placeCode N tail x out ≡ stepCode state x out
+    unfolding stepCode streamIn
+    step-code = rw (eq-eqb (length state) entries a) (place-code N tail x out rest)
+
+    pub step-out : S.placeOut N tail x out ≡ stepOut state x out
+    unfolding stepOut streamIn
+    step-out = rw (eq-eqb (length state) entries a) (place-out N tail x out rest)
+
+    pub step-state : take 1 state ++ S.placeTail N tail x out ≡ stepState state x out
+    unfolding S.placeTail stepState streamIn
+    step-state = rw step-code (by-test (eqb (stepCode state x out) 0))
+      where
+        new : List ℤ
+        new = (next (record { n = N; tail = tail }) x) .tail
+
+        by-test : (b : Bool) → take 1 state ++ cond b new tail ≡ cond b (take 1 state ++ new) state
+        by-test true = refl
+        by-test false = take-append-drop 1 state

@@ -6,9 +6,8 @@ ghost use Rattle.recording.specs.declared.Route.the-variants.{Direct, Short};
 ghost use Rattle.stream.specs.Synthesis.{storage};
 ghost use Rattle.filter_bank.specs.Analysis.{analyseCode, analyseOut};
 ghost use Rattle.filter_bank.specs.Recordings.{recordedCode, recordedOut, playedCode, playedOut};
-ghost use Rattle.c_face.specs.Face.{entries, lengthIn, streamIn, freshCode, freshState, stepCode, stepState, stepOut};
+ghost use Rattle.c_face.specs.Face.{lengthIn, freshCode, freshState, stepCode, stepState, stepOut};
 use recording::Route;
-use stream::Stream;
 
 // Entries of a state.
 const ENTRIES: usize = 1 + stream::STORAGE;
@@ -47,37 +46,13 @@ fn length_in(entry: i64) -> usize
     entry as usize
 }
 
-// A tail, read from the part of a state behind entry 0.
-fn tail_in(part: &[i64]) -> [i64; stream::STORAGE]
-    requires { ⌜ length (now part) ≡ storage ⌝ }
-    ensures { λ r. ⌜ r ≡ now (part .entry) ⌝ }
-{
-    let mut tail = [0i64; stream::STORAGE];
-    for i in 0..stream::STORAGE {
-        tail[i] = part[i];
-    }
-    tail
-}
-
-// A tail, written to that part.
+// A tail, written to the part of a state behind entry 0.
 fn write_tail(tail: [i64; stream::STORAGE], part: &mut [i64])
     requires { ⌜ length (now part) ≡ storage ⌝ }
     ensures { λ _. ⌜ now (part .exit) ≡ tail ⌝ }
 {
     for i in 0..stream::STORAGE {
         part[i] = tail[i];
-    }
-}
-
-// The stream that a state holds.
-fn stream_in(state: &[i64]) -> Stream
-    requires { ⌜ length (now state) ≡ entries ⌝ }
-    ensures { λ r. ⌜ r ≡ streamIn (now (state .entry)) ⌝ }
-{
-    let tail = tail_in(&state[1..]);
-    Stream {
-        n: length_in(state[0]),
-        tail: tail,
     }
 }
 
@@ -100,8 +75,8 @@ pub extern "C" fn dapplescree_stream_fresh(n: usize, state: &mut [i64]) -> u32
     0
 }
 
-// One step on the stream that a state holds: `filter_bank::step`. 2: the state's length is another, before every other cause. Refused,
-// the state and the hop are left alone; taken, entry 0 stays and the tail is the new one.
+// One step on the stream that a state holds, in place: `filter_bank::step_in_place` on the part behind entry 0. 2: the state's length is
+// another, before every other cause. Refused, the state and the hop are left alone; taken, entry 0 stays and the tail is the new one.
 #[no_mangle]
 pub extern "C" fn dapplescree_stream_step(
     state: &mut [i64],
@@ -113,14 +88,7 @@ pub extern "C" fn dapplescree_stream_step(
     if state.len() != ENTRIES {
         return 2;
     }
-    let stepped = filter_bank::step(stream_in(state), coefficients, hop);
-    if stepped.code != 0 {
-        return stepped.code;
-    }
-    let next = stepped.stream;
-    let tail = next.tail;
-    write_tail(tail, &mut state[1..]);
-    0
+    filter_bank::step_in_place(length_in(state[0]), &mut state[1..], coefficients, hop)
 }
 
 // A whole recording by the direct route: `filter_bank::analyse_recording`.

@@ -37,10 +37,10 @@ fn show_out(code: u32, out: &[i16]) {
     report::end();
 }
 
-fn show_stream(n: usize, tail: &[i64; stream::STORAGE]) {
+fn show_stream(n: usize, tail: &[i64]) {
     report::word(b"stream");
     report::count(n);
-    for i in 0..stream::STORAGE {
+    for i in 0..tail.len() {
         report::field(tail[i]);
     }
     report::end();
@@ -68,6 +68,21 @@ fn offer(s: Stream, x: [i32; ROOM], m: usize, l: usize) -> Stream
 {
     let mut out = marks();
     told(s, &x[..m], &mut out[..l])
+}
+
+// One step in place, and what is there afterwards.
+fn told_in_place(n: usize, tail: &mut [i64], x: &[i32], out: &mut [i16]) {
+    let code = filter_bank::step_in_place(n, tail, x, out);
+    show_out(code, out);
+    show_stream(n, tail);
+}
+
+// The same on the first m entries of x and a buffer of l marks.
+fn offer_in_place(n: usize, tail: &mut [i64], x: [i32; ROOM], m: usize, l: usize)
+    requires { ⌜ (m ≤ 40) × (l ≤ 40) ⌝ }
+{
+    let mut out = marks();
+    told_in_place(n, tail, &x[..m], &mut out[..l]);
 }
 
 // Pseudo-random numbers, and one of -span .. span.
@@ -170,17 +185,36 @@ fn long(n: usize, m: usize)
     }
 }
 
-// The same blocks on two streams, on the first with a refused step before each of them: every pair of answers is the same.
+// The same refusals in place.
+fn refused_in_place(n: usize, tail: &mut [i64], x: [i32; ROOM], m: usize, kind: usize)
+    requires { ⌜ (1 ≤ m) × (m ≤ 36) ⌝ }
+{
+    if kind == 0 {
+        offer_in_place(n, tail, x, m - 1, m);
+        return;
+    }
+    if kind == 1 {
+        offer_in_place(n, tail, x, m, m + 1);
+        return;
+    }
+    if kind == 2 {
+        offer_in_place(n, tail, with(x, m - 1, ABOVE), m, m);
+        return;
+    }
+    offer_in_place(n, tail, with(x, 0, BELOW), m, m - 1);
+}
+
+// The same blocks in place, with a refused step before each of them, and by value: every pair of answers is the same.
 fn beside(n: usize, m: usize)
     requires { ⌜ (n ≤ 72) × (1 ≤ m) × (m ≤ 36) ⌝ }
 {
     let made = filter_bank::fresh(n);
-    let mut s = made.stream;
     let mut t = made.stream;
+    let mut tail = [0; stream::STORAGE];
     for b in 0..TWICE {
         let x = noise((200 * n + b) as u64, span(b));
-        s = refused(s, x, m, b / 4);
-        s = offer(s, x, m, m);
+        refused_in_place(n, &mut tail, x, m, b / 4);
+        offer_in_place(n, &mut tail, x, m, m);
         t = offer(t, x, m, m);
     }
 }

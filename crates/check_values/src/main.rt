@@ -85,28 +85,45 @@ fn line(word: &[u8], of: usize, a: i64, value: i64) {
     report::end();
 }
 
+// A sum that rnd_shift takes: one of at most 2^62.
+fn shift(k: u32, a: i64)
+    requires { ⌜ (2 ≤ k) × (k < 63) ⌝ }
+{
+    if arithmetic::size(a) <= 4611686018427387904 {
+        line(b"shift", k as usize, a, arithmetic::rnd_shift(a, k));
+    }
+}
+
 fn shifts(k: u32)
     requires { ⌜ (2 ≤ k) × (k < 63) ⌝ }
 {
     for i in 0..COUNT {
         let a = SUMS[i];
-        line(b"shift", k as usize, a, arithmetic::rnd_shift(a, k));
+        shift(k, a);
     }
 }
 
+// Quotients by n × 2^30, clamped.
 fn scales(n: usize)
-    requires { ⌜ (0 < n) × (n < 2 ^ 16) ⌝ }
+    requires { ⌜ (0 < n) × (n < 2 ^ 15) ⌝ }
 {
     for i in 0..COUNT {
         let a = SUMS[i];
-        line(b"scale", n, a, arithmetic::rnd_scaled(a, n));
+        line(b"scale", n, a, arithmetic::sample(a, n) as i64);
+    }
+}
+
+// The clamp by itself: a × 2^30, where that fits, by 1 × 2^30.
+fn clamp(i: usize, a: i64) {
+    if arithmetic::size(a) < 8589934592 {
+        line(b"clamp", i, a, arithmetic::sample(a * 1073741824, 1) as i64);
     }
 }
 
 fn clamps() {
     for i in 0..COUNT {
         let a = SUMS[i];
-        line(b"clamp", i, a, arithmetic::clamp(a) as i64);
+        clamp(i, a);
     }
 }
 
@@ -166,7 +183,7 @@ fn short_kernels(n: usize)
 }
 
 fn length(n: usize)
-    requires { ⌜ T (tabled n) × (0 < n) × (n < 2 ^ 16) ⌝ }
+    requires { ⌜ T (tabled n) × (0 < n) × (n < 2 ^ 15) ⌝ }
 {
     scales(n);
     windows(n);

@@ -1,5 +1,5 @@
 -- Laws of the public calls' numbers: `demand-1`, that every call answers as document 01's table of causes says.
-use mathlib.Core.Path.{_≡_, refl}
+use mathlib.Core.Path.{_≡_, refl, sym, ap}
 use mathlib.Core.Bool.{Bool, true, false, cond}
 use mathlib.Core.List.{List}
 use Prim.Native.Nat.{ℕ, _+_, _*_, _/_}
@@ -13,18 +13,20 @@ use Rattle.cosine.specs.Kernels.{tabled}
 use Rattle.short_route.specs.ShortRoute as R
 use Rattle.stream.specs.declared.Stream.{Stream}
 use Rattle.stream.specs.Synthesis as S
+use Rattle.stream.specs.Steps.{next, hop}
 use Rattle.recording.specs.declared.Route.{Route}
 use Rattle.recording.specs.declared.Route.the-variants.{Direct, Short}
 use Rattle.recording.specs.Analysis.{offered, coefficients}
 use Rattle.recording.specs.Recordings.{analysis, synthesis}
 use Rattle.filter_bank.specs.declared.Made.{Made}
+use Rattle.filter_bank.specs.declared.Stepped.{Stepped}
 use Rattle.filter_bank.specs.Analysis.{analyseCode, analyseOut}
-use Rattle.filter_bank.specs.Streams.{within, tailLimit, coefficientLimit, fresh, sound, inRange, stepCode, step}
-use Rattle.filter_bank.specs.StreamLaws.{is-true, is-false, range-small, sound-tabled, sound-bounded}
+use Rattle.filter_bank.specs.Streams.{within, tailLimit, coefficientLimit, fresh, sound, inRange, stepCode, step, placeCode, placeTail, placeOut}
+use Rattle.filter_bank.specs.StreamLaws.{is-true, is-false, range-small, sound-tabled, sound-bounded, place-2, place-code, place-out, place-step}
 use Rattle.filter_bank.specs.Recordings.{blockLimit, counted, recordedCode, recordedOut, playedCode, playedOut, shaped, innerFrom, innerOf}
 use Rattle.filter_bank.specs.RecordingLaws.{counted-some, counted-most}
 use Rattle.demands.specs.StepLaws.{abs-within, sound-of, code-other, refused-stream, refused-buffer}
-use Rattle.demands.specs.Demands.{Tabled, Counted, InRange, SoundTail, AnalyseAnswers, FreshAnswers, StepAnswers, RecordedAnswers, PlayedAnswers, Empty, InnerAnswers, Demand-1}
+use Rattle.demands.specs.Demands.{Tabled, Counted, InRange, SoundTail, AnalyseAnswers, FreshAnswers, StepAnswers, streamOf, PlaceAnswers, RecordedAnswers, PlayedAnswers, Empty, InnerAnswers, Demand-1}
 
 -- ---- the causes as tests
 module _ (N : ℕ) where
@@ -140,6 +142,17 @@ step-answers s x out =
       kept = λ r. refused-buffer s x out r;
     }
 
+place-answers : (N : ℕ) (tail x out : List ℤ) → PlaceAnswers N tail x out
+unfolding placeTail placeOut
+place-answers N tail x out = record {
+  two-tail = λ n. sym (place-2 N tail x out n .0);
+  same = λ e. place-code N tail x out e;
+  same-tail = λ e. ap (λ (r : Stepped). r .stream .tail) (place-step N tail x out e);
+  same-out = λ e. place-out N tail x out e;
+  kept-tail = λ r. code-other (placeCode N tail x out) (next (streamOf N tail) x .tail) tail r;
+  kept = λ r. code-other (placeCode N tail x out) (hop (streamOf N tail) x) out r;
+}
+
 recorded-answers : (route : Route) (N B : ℕ) (x out : List ℤ) → RecordedAnswers route N B x out
 unfolding recordedCode recordedOut
 recorded-answers route N B x out =
@@ -198,6 +211,7 @@ demand-1 = record {
   analyse = analyse-answers;
   made = fresh-answers;
   stepped = step-answers;
+  placed = place-answers;
   recorded = recorded-answers;
   played = played-answers;
   inner = inner-answers;

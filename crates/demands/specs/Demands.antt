@@ -23,7 +23,7 @@ use Rattle.recording.specs.declared.Route.the-variants.{Direct, Short}
 use Rattle.recording.specs.Analysis.{block}
 use Rattle.recording.specs.Recordings.{part}
 use Rattle.filter_bank.specs.Analysis.{analyseCode, analyseOut}
-use Rattle.filter_bank.specs.Streams.{tailLimit, coefficientLimit, fresh, stepCode, step, stepOut}
+use Rattle.filter_bank.specs.Streams.{tailLimit, coefficientLimit, fresh, stepCode, step, stepOut, placeCode, placeTail, placeOut}
 use Rattle.filter_bank.specs.Recordings.{blockLimit, recordedCode, recordedOut, playedCode, playedOut, innerFrom, innerOf}
 use Rattle.demands.specs.Steps.{Offer, Turn, Entry, turns, Recording, InOrder, Returned}
 use Rattle.demands.specs.Recordings.{ByOneCall, BlockByBlock, Back, offering, outputs}
@@ -68,6 +68,18 @@ pub record StepAnswers (s : Stream) (x out : List ℤ) : Type 0 where
   pub kept-stream : stepCode s x out ≢ 0 → step s x out .stream ≡ s
   pub kept : stepCode s x out ≢ 0 → stepOut s x out ≡ out
 
+-- `step_in_place`: `step` on the stream of N and the tail
+abbrev pub streamOf : ℕ → List ℤ → Stream
+streamOf N tail = record { n = N; tail = tail }
+
+pub record PlaceAnswers (N : ℕ) (tail x out : List ℤ) : Type 0 where
+  pub two-tail : length tail ≢ S.storage → placeCode N tail x out ≡ 2
+  pub same : length tail ≡ S.storage → placeCode N tail x out ≡ stepCode (streamOf N tail) x out
+  pub same-tail : length tail ≡ S.storage → placeTail N tail x out ≡ step (streamOf N tail) x out .stream .tail
+  pub same-out : length tail ≡ S.storage → placeOut N tail x out ≡ stepOut (streamOf N tail) x out
+  pub kept-tail : placeCode N tail x out ≢ 0 → placeTail N tail x out ≡ tail
+  pub kept : placeCode N tail x out ≢ 0 → placeOut N tail x out ≡ out
+
 -- `analyse_recording`, by either route
 pub record RecordedAnswers (route : Route) (N B : ℕ) (x out : List ℤ) : Type 0 where
   pub one : ¬ Tabled N → recordedCode route N B x out ≡ 1
@@ -102,6 +114,7 @@ pub record Demand-1 : Type 0 where
   pub analyse : (route : Route) (N : ℕ) (x out : List ℤ) → AnalyseAnswers route N x out
   pub made : (N : ℕ) → FreshAnswers N
   pub stepped : (s : Stream) (x out : List ℤ) → StepAnswers s x out
+  pub placed : (N : ℕ) (tail x out : List ℤ) → PlaceAnswers N tail x out
   pub recorded : (route : Route) (N B : ℕ) (x out : List ℤ) → RecordedAnswers route N B x out
   pub played : (N B : ℕ) (x out : List ℤ) → PlayedAnswers N B x out
   pub inner : (N B : ℕ) (out : List ℤ) → InnerAnswers N B out

@@ -1,6 +1,6 @@
--- Laws of `step`: its number by its causes, and what follows from the number.
-use mathlib.Core.Path.{_≡_, refl}
-use mathlib.Core.Bool.{Bool, true, false}
+-- Laws of `step` and `step_in_place`: their number by its causes, and what follows from the number.
+use mathlib.Core.Path.{_≡_, refl, sym, _∙_}
+use mathlib.Core.Bool.{Bool, true, false, cond}
 use mathlib.Core.List.{List}
 use Prim.Native.Nat.{ℕ, _*_, _/_, _^_, _≤_}
 use native.Mathlib.Omega.{arith}
@@ -14,9 +14,11 @@ use Rattle.arithmetic.specs.OrderLaws.{abs-le}
 use Rattle.arithmetic.specs.TestLaws.{all-at, both-left, both-right}
 use Rattle.cosine.specs.Kernels.{tabled}
 use Rattle.stream.specs.declared.Stream.{Stream}
+use Rattle.stream.specs.Synthesis.{storage}
 use Rattle.stream.specs.StepLaws.{Bounded}
 use Rattle.stream.specs.Steps.{next, hop}
-use Rattle.filter_bank.specs.Streams.{within, coefficientLimit, tailLimit, soundTail, sound, inRange, stepCode, step, stepOut}
+use Rattle.filter_bank.specs.declared.Stepped.{Stepped}
+use Rattle.filter_bank.specs.Streams.{within, coefficientLimit, tailLimit, soundTail, sound, inRange, stepCode, step, stepOut, placeCode, placeTail, placeOut}
 
 -- ---- a number within the limit, as a size
 pub within-abs : (z : ℤ) (b : ℕ) → T (within z b) → natAbs z ≤ b
@@ -91,3 +93,41 @@ module _ (s : Stream) (x out : List ℤ) where
   pub taken : stepCode s x out ≡ 0 → (record { code = 0; stream = next s x } ≡ step s x out) × (hop s x ≡ stepOut s x out)
   unfolding step stepOut
   taken e = (rw e, rw e)
+
+-- ---- in place, on the stream of N and a tail
+module _ (N : ℕ) (tail x out : List ℤ) where
+  abbrev held : Stream
+  held = record { n = N; tail = tail }
+
+  pub place-2 : ¬ (length tail ≡ storage) → (2 ≡ placeCode N tail x out) × (tail ≡ placeTail N tail x out) × (out ≡ placeOut N tail x out)
+  unfolding placeCode placeTail placeOut
+  place-2 n = let e = ne-eqb (length tail) storage n in (rw e, rw e, rw e)
+
+  module _ (a : length tail ≡ storage) where
+    pub place-code : placeCode N tail x out ≡ stepCode held x out
+    unfolding placeCode
+    place-code = rw (eq-eqb (length tail) storage a)
+
+    pub place-refused : (c : ℕ) → eqb c 0 ≡ false → stepCode held x out ≡ c → (c ≡ placeCode N tail x out) × (tail ≡ placeTail N tail x out) × (out ≡ placeOut N tail x out)
+    unfolding placeTail placeOut
+    place-refused c n e = let p = place-code ∙ e in (sym p, rw (p, n), rw (p, n))
+
+    pub place-taken : stepCode held x out ≡ 0 → (0 ≡ placeCode N tail x out) × (next held x .tail ≡ placeTail N tail x out) × (hop held x ≡ placeOut N tail x out)
+    unfolding placeTail placeOut
+    place-taken e = let p = place-code ∙ e in (sym p, rw p, rw p)
+
+    -- it is `step` by value
+    pub place-out : placeOut N tail x out ≡ stepOut held x out
+    unfolding placeOut stepOut
+    place-out = rw place-code
+
+    pub place-step : record { code = placeCode N tail x out; stream = record { n = N; tail = placeTail N tail x out } } ≡ step held x out
+    unfolding placeTail step next
+    place-step = rw place-code (by-test (eqb (stepCode held x out) 0))
+      where
+        answer : Stream → Stepped
+        answer s = record { code = stepCode held x out; stream = s }
+
+        by-test : (b : Bool) → answer (record { n = N; tail = cond b (next held x .tail) tail }) ≡ answer (cond b (next held x) held)
+        by-test true = refl
+        by-test false = refl

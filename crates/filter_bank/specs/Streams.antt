@@ -1,4 +1,4 @@
--- What `fresh` and `step` answer: definitions. Document 01, 'Synthesis stream' and 'When the bank declines'.
+-- What `fresh`, `step` and `step_in_place` answer: definitions. Document 01, 'Synthesis stream' and 'When the bank declines'.
 use mathlib.Core.Bool.{Bool, cond, false}
 use mathlib.Core.List.{List}
 use Prim.Native.Nat.{ℕ, _*_, _/_, _^_}
@@ -56,3 +56,14 @@ step s x out = record { code = stepCode s x out; stream = cond (eqb (stepCode s 
 
 unfoldable pub stepOut : Stream → List ℤ → List ℤ → List ℤ
 stepOut s x out = cond (eqb (stepCode s x out) 0) (hop s x) out
+
+-- `step_in_place`: 2 for a tail of another length, then what `step` returns on the stream of N and this tail
+unfoldable pub placeCode : ℕ → List ℤ → List ℤ → List ℤ → ℕ
+placeCode N tail x out = cond (eqb (length tail) S.storage) (stepCode (record { n = N; tail = tail }) x out) 2
+
+-- what the tail and `out` then hold: refused, what they held
+unfoldable pub placeTail : ℕ → List ℤ → List ℤ → List ℤ → List ℤ
+placeTail N tail x out = cond (eqb (placeCode N tail x out) 0) ((next (record { n = N; tail = tail }) x) .tail) tail
+
+unfoldable pub placeOut : ℕ → List ℤ → List ℤ → List ℤ → List ℤ
+placeOut N tail x out = cond (eqb (placeCode N tail x out) 0) (hop (record { n = N; tail = tail }) x) out

@@ -65,8 +65,8 @@ fn is_within(v: i64, limit: usize) -> bool
 }
 
 // The first m tail entries lie within the limit.
-fn tail_within(tail: &[i64; stream::STORAGE], m: usize) -> bool
-    requires { ⌜ m ≤ storage ⌝ }
+fn tail_within(tail: &[i64], m: usize) -> bool
+    requires { ⌜ (m ≤ storage) × (m ≤ length (now tail)) ⌝ }
     ensures { λ r. ⌜ r ≡ all m (λ i. within (at (now (tail .entry)) i) (tailLimit m)) ⌝ }
 {
     let limit = m * TAIL_UNIT;
@@ -79,7 +79,8 @@ fn tail_within(tail: &[i64; stream::STORAGE], m: usize) -> bool
 }
 
 // A stream that a step takes: cause 4.
-pub fn is_sound(n: usize, tail: &[i64; stream::STORAGE]) -> bool
+pub fn is_sound(n: usize, tail: &[i64]) -> bool
+    requires { ⌜ length (now tail) ≡ storage ⌝ }
     ensures { λ r. ⌜ r ≡ cond (tabled n) (all (n / 2) (λ i. within (at (now (tail .entry)) i) (tailLimit (n / 2)))) false ⌝ }
 {
     if !cosine::is_tabled(n) {

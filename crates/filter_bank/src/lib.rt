@@ -5,7 +5,7 @@ mod recordings;
 
 ghost use mathlib.Core.Path.{_≡_};
 ghost use Rattle.filter_bank.specs.Analysis.{analyseCode, analyseOut};
-ghost use Rattle.filter_bank.specs.Streams.{fresh, step, stepOut};
+ghost use Rattle.filter_bank.specs.Streams.{fresh, step, stepOut, placeCode, placeTail, placeOut};
 use recording::Route;
 pub use recordings::analyse_recording;
 pub use recordings::inner;
@@ -61,28 +61,41 @@ pub fn fresh(n: usize) -> Made
     }
 }
 
+// One step in place, for a caller who keeps the tail in a buffer of his own, as the calls for C do: `step` on the stream of n and this
+// tail. 2 before all else: the tail's length is not that of a stream's storage. Refused, the tail and `out` are left alone; taken, the tail
+// is the new one.
+pub fn step_in_place(n: usize, tail: &mut [i64], x: &[i32], out: &mut [i16]) -> u32
+    ensures { λ r. ⌜ (r ≡ placeCode n (now (tail .entry)) (now (x .entry)) (now (out .entry))) × (now (tail .exit) ≡ placeTail n (now (tail .entry)) (now (x .entry)) (now (out .entry))) × (now (out .exit) ≡ placeOut n (now (tail .entry)) (now (x .entry)) (now (out .entry))) ⌝ }
+{
+    if tail.len() != stream::STORAGE {
+        return 2;
+    }
+    if !checks::is_sound(n, tail) {
+        return 4;
+    }
+    if x.len() != n / 2 {
+        return 2;
+    }
+    if out.len() != n / 2 {
+        return 2;
+    }
+    if !checks::in_range(x, n / 2) {
+        return 3;
+    }
+    stream::advance_tail(n, x, tail, out);
+    0
+}
+
 // One step of the synthesis stream: M coefficients in, a hop of M samples out. 4: the stream handed in is not sound. 2: a buffer's
 // length is not M. 3: a coefficient is out of range. Refused, the stream comes back as it was, and `out` is left alone.
 pub fn step(s: Stream, x: &[i32], out: &mut [i16]) -> Stepped
     ensures { λ r. ⌜ (r ≡ step s (now (x .entry)) (now (out .entry))) × (now (out .exit) ≡ stepOut s (now (x .entry)) (now (out .entry))) ⌝ }
 {
     let n = s.n;
-    let tail = s.tail;
-    if !checks::is_sound(n, &tail) {
-        return Stepped { code: 4, stream: s };
-    }
-    if x.len() != n / 2 {
-        return Stepped { code: 2, stream: s };
-    }
-    if out.len() != n / 2 {
-        return Stepped { code: 2, stream: s };
-    }
-    if !checks::in_range(x, n / 2) {
-        return Stepped { code: 3, stream: s };
-    }
-    let next = stream::advance(s, x, out);
+    let mut tail = s.tail;
+    let code = step_in_place(n, &mut tail, x, out);
     Stepped {
-        code: 0,
-        stream: next,
+        code: code,
+        stream: Stream { n: n, tail: tail },
     }
 }

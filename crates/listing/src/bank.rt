@@ -18,10 +18,10 @@ use crate::hop::read_hop;
 use crate::print::put_row;
 use stream::Stream;
 
-// Samples of the longest block, and of its hop.
-const BLOCK: usize = 72;
+// Samples of the longest block, and of its hop: a hop is what a stream has storage for.
+const BLOCK: usize = 2 * stream::STORAGE;
 
-const HOP: usize = 36;
+const HOP: usize = stream::STORAGE;
 
 // Room for a block, for its coefficients, and for a hop.
 fn block_room() -> [i16; BLOCK]

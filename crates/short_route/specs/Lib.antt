@@ -1,8 +1,10 @@
 pub mod ShortRoute
 pub mod OfferLaws
+pub mod WindowLaws
 pub mod ShortSizeLaws
 pub mod TripleLaws
 pub mod ShortLaws
 pub mod ShortFoldLaws
 pub mod RotationLaws
 pub mod ShortStepLaws
+pub mod PartLaws

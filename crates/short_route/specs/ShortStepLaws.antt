@@ -14,15 +14,14 @@ use Rattle.arithmetic.specs.ListLaws.{length-table, getD-table, table-ext}
 use Rattle.arithmetic.specs.SumLaws.{sum-ext}
 use Rattle.arithmetic.specs.TestLaws.{cond-no}
 use Rattle.cosine.specs.Kernels.{rising, falling, L, turned}
-use Rattle.cosine.specs.LengthLaws.{Part, length-of}
+use Rattle.cosine.specs.LengthLaws.{length-of}
 use Rattle.transform.specs.Analysis.{y, S}
 use Rattle.short_route.specs.ShortRoute.{offered, a, b, c, e, f, rB, rC, A, B, G, D, Unrounded, shortX, short}
 use Rattle.short_route.specs.OfferLaws.{offered-tabled}
-use Rattle.transform.specs.FoldLaws.{folded}
 use Rattle.short_route.specs.ShortSizeLaws.{A-size, plus-size, minus-size}
 use Rattle.short_route.specs.ShortFoldLaws.{middle, third-sum}
-use Rattle.transform.specs.RowLaws.{riseList, fallList, rowList}
-use Rattle.transform.specs.DirectLaws.{y-lent, S-ext, S-rows}
+use Rattle.transform.specs.HalfLaws.{riseList, fallList}
+use Rattle.transform.specs.DirectLaws.{y-lent, S-ext}
 
 -- every entry of a table is small where its rule is
 pub table-small : (m B : ℕ) (f : ℕ → ℤ) → ((i : ℕ) → i < m → natAbs (f i) ≤ B) → Small (table m f) B
@@ -37,13 +36,6 @@ module _ (N n : ℕ) (z : ℤ) where
   pub turned-odd : ¬ ((n + N / 12) % 2 ≡ 0) → turned N n z ≡ z
   unfolding turned
   turned-odd h = cond-no (eqb ((n + N / 12) % 2) 0) (negℤ z) z (λ t. h (eqb→eq ((n + N / 12) % 2) 0 t))
-
--- ---- the sums of a part: folded, and summed with the rows that are lent
-pub sums-step : (P : ℕ) → Part P → (u : ℕ → ℤ) (m : ℕ) (rows z t : List ℤ) → m ≡ P / 2 → rows ≡ rowList P → z ≡ table (P / 2) (folded P u) →
-    t ≡ table m (λ j. sum m (λ k. at z k *ℤ at rows (j * m + k))) → t ≡ table (P / 2) (S P u)
-sums-step P len u m rows z t e r f h =
-    rw (e, r, f) at h
-    ∙ table-ext (P / 2) (λ k. sum (P / 2) (λ j. at (table (P / 2) (folded P u)) j *ℤ at (rowList P) (k * (P / 2) + j))) (S P u) (λ k p. S-rows P len u k p)
 
 -- ---- the split of a part of N inputs y
 module _ (N : ℕ) (o : T (offered N)) (y : ℕ → ℤ) where

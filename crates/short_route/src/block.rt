@@ -2,35 +2,56 @@
 ghost use mathlib.Core.Path.{_≡_};
 ghost use Prim.Native.Nat.{_*_, _^_, _≤_, _<_};
 ghost use lib.ListN.{length};
-ghost use lib.IntN.{natAbs};
+ghost use lib.IntN.{pos, natAbs, _*ℤ_};
+ghost use lib.Signed.{_≤ℤ_};
 ghost use Rattle.arithmetic.specs.Rounding.{rnd};
 ghost use Rattle.arithmetic.specs.Lists.{at, table, Small};
 ghost use Rattle.transform.specs.Analysis.{y};
+ghost use Rattle.transform.specs.HopLaws.{windowed};
 ghost use Rattle.short_route.specs.ShortStepLaws.{interleaved};
-use transform::fold::windowed;
+ghost use Rattle.short_route.specs.WindowLaws.{NotNegative};
 
-// y(n): a sample of the first hop by the rising half, one of the second by the falling half.
-fn windowed_at(left: &[i32], right: &[i32], x: &[i16], n: usize) -> i32
-    requires { ⌜ (length (now left) ≡ length (now right)) × (length (now x) ≡ 2 * length (now left)) × (n < length (now x)) × Small (now left) (2 ^ 26) × Small (now right) (2 ^ 26) ⌝ }
-    ensures { λ r. ⌜ (r ≡ y (length (now (x .entry))) (at (now (left .entry))) (at (now (right .entry))) (now (x .entry)) n) × (natAbs r ≤ 2 ^ 23) ⌝ }
+// rnd(w x / 2^18) in 32 bits: with w = 2^13 hi + lo it is the floor of (hi x + floor(lo x / 2^13) + 2^4) / 2^5.
+// The remainders tell the compiler that hi and lo have 16 bits: SSE2 multiplies such numbers in one step.
+fn weighted(w: i32, x: i16) -> i32
+    requires { ⌜ (pos 0 ≤ℤ w) × (natAbs w ≤ 2 ^ 26) ⌝ }
+    ensures { λ r. ⌜ (r ≡ rnd (w *ℤ x) (2 ^ 18)) × (natAbs r ≤ 2 ^ 23) ⌝ }
 {
-    let m = left.len();
-    if n < m {
-        windowed(left, n, x, n)
-    } else {
-        windowed(right, n - m, x, n)
+    let a = x as i32;
+    let u = w as u32;
+    let hi = (u / 8192 % 16384) as i32;
+    let lo = (u % 8192) as i32;
+    (a * hi + (a * lo >> 13) + 16) >> 5
+}
+
+// Sample n, windowed by entry i of a half of the joint.
+fn windowed(half: &[i32], i: usize, x: &[i16], n: usize) -> i32
+    requires { ⌜ Small (now half) (2 ^ 26) × NotNegative (now half) × (i < length (now half)) × (n < length (now x)) ⌝ }
+    ensures { λ r. ⌜ (r ≡ windowed (now (half .entry)) i (now (x .entry)) n) × (natAbs r ≤ 2 ^ 23) ⌝ }
+{
+    weighted(half[i], x[n])
+}
+
+// One hop, by its half of the window.
+fn window_hop(half: &[i32], x: &[i16], out: &mut [i32])
+    requires { ⌜ (length (now x) ≡ length (now half)) × (length (now out) ≡ length (now half)) × Small (now half) (2 ^ 26) × NotNegative (now half) ⌝ }
+    ensures { λ _. ⌜ now (out .exit) ≡ table (length (now (half .entry))) (λ n. windowed (now (half .entry)) n (now (x .entry)) n) ⌝ }
+    ensures { λ _. ⌜ Small (now (out .exit)) (2 ^ 23) ⌝ }
+{
+    for n in 0..half.len() {
+        out[n] = windowed(half, n, x, n);
     }
 }
 
-// y(0) .. y(N-1).
+// y(0) .. y(N-1): the first hop by the rising half, the second by the falling half.
 pub fn windowed_block(left: &[i32], right: &[i32], x: &[i16], out: &mut [i32])
-    requires { ⌜ (length (now left) ≡ length (now right)) × (length (now x) ≡ 2 * length (now left)) × (length (now out) ≡ length (now x)) × Small (now left) (2 ^ 26) × Small (now right) (2 ^ 26) ⌝ }
+    requires { ⌜ (length (now left) ≡ length (now right)) × (length (now x) ≡ 2 * length (now left)) × (length (now out) ≡ length (now x)) × Small (now left) (2 ^ 26) × Small (now right) (2 ^ 26) × NotNegative (now left) × NotNegative (now right) ⌝ }
     ensures { λ _. ⌜ now (out .exit) ≡ table (length (now (x .entry))) (y (length (now (x .entry))) (at (now (left .entry))) (at (now (right .entry))) (now (x .entry))) ⌝ }
     ensures { λ _. ⌜ Small (now (out .exit)) (2 ^ 23) ⌝ }
 {
-    for n in 0..out.len() {
-        out[n] = windowed_at(left, right, x, n);
-    }
+    let m = left.len();
+    window_hop(left, &x[..m], &mut out[..m]);
+    window_hop(right, &x[m..], &mut out[m..]);
 }
 
 // A sum of the split, divided by 2^k.

@@ -1,6 +1,7 @@
 // The short route's analysis of one block of a length at which it is offered, valid by its requires. Definitions are in specs/.
 // No function here is a public call: `filter_bank` calls `analyse` after every check.
 mod block;
+mod parts;
 mod split;
 mod tables;
 
@@ -11,7 +12,7 @@ ghost use lib.ListN.{length};
 ghost use Rattle.arithmetic.specs.Lists.{at, table, Small};
 ghost use Rattle.cosine.specs.Kernels.{rising, falling};
 ghost use Rattle.transform.specs.Analysis.{y};
-ghost use Rattle.transform.specs.RowLaws.{riseList, fallList};
+ghost use Rattle.transform.specs.HalfLaws.{riseList, fallList};
 ghost use Rattle.short_route.specs.ShortRoute.{offered, Unrounded, short};
 
 // The block, windowed. The length's window is lent.

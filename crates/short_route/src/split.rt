@@ -4,19 +4,18 @@ ghost use mathlib.Core.Path.{_≡_};
 ghost use Prim.Native.Nat.{_-_, _*_, _/_, _^_, _≤_, _<_};
 ghost use lib.Dec.{T};
 ghost use lib.ListN.{length};
-ghost use lib.IntN.{natAbs, _+ℤ_, _-ℤ_};
+ghost use lib.IntN.{pos, natAbs, _+ℤ_, _-ℤ_, _*ℤ_};
 ghost use Rattle.arithmetic.specs.Lists.{at, table, Small};
 ghost use Rattle.cosine.specs.Kernels.{eB, fB, eC, fC};
-ghost use Rattle.cosine.specs.LengthLaws.{Part};
-ghost use Rattle.transform.specs.Analysis.{S};
 ghost use Rattle.short_route.specs.ShortRoute.{offered, a, b, c, e, f, rB, rC, B, D, Unrounded};
-ghost use Rattle.transform.specs.FoldLaws.{folded};
+ghost use Rattle.transform.specs.LiftLaws.{liftList, baseList, raised};
 ghost use Rattle.short_route.specs.ShortFoldLaws.{middle, turnedC, sumsA, sumsB, sumsG};
-ghost use Rattle.transform.specs.RowLaws.{rowList};
-ghost use Rattle.short_route.specs.RotationLaws.{rotation};
+ghost use Rattle.short_route.specs.PartLaws.{inputs, Inputs};
+ghost use Rattle.short_route.specs.RotationLaws.{lifted};
+use crate::parts::part_inputs;
+use crate::parts::three;
 use crate::tables;
-use transform::sums::product;
-use transform::unfold::sums;
+use transform::sums::lower;
 
 // a, b and c at place n, below N/3.
 fn a_at(y: &[i32], n: usize) -> i32
@@ -64,27 +63,80 @@ fn f_at(y: &[i32], n: usize) -> i32
     a_at(y, n) + b_at(y, n)
 }
 
+// The rotation of e and f multiplies numbers that are never negative: of 32 bits, SSE2 multiplies only such in one step. So 2^26 is added to e and f,
+// and 2^27 to each number of the tables, and what that adds to the products is taken out again.
+
+// a + 2^26.
+fn up(a: i32) -> u64
+    requires { ⌜ natAbs a ≤ 2 ^ 26 ⌝ }
+    ensures { λ r. ⌜ (pos r ≡ a +ℤ pos (2 ^ 26)) × (r ≤ 2 ^ 27) ⌝ }
+{
+    (a + 67108864) as u32 as u64
+}
+
+// A number of the tables.
+fn plain(p: i32) -> u64
+    requires { ⌜ natAbs (p -ℤ pos (2 ^ 27)) ≤ 2 ^ 27 ⌝ }
+    ensures { λ r. ⌜ (pos r ≡ p) × (r ≤ 2 ^ 28) ⌝ }
+{
+    p as u32 as u64
+}
+
+// s - 2^27 u - 2^26 v.
+fn lowered(s: i64, u: i64, v: i64) -> i64
+    requires { ⌜ (natAbs s ≤ 2 ^ 56) × (natAbs u ≤ 2 ^ 28) × (natAbs v ≤ 2 ^ 29) ⌝ }
+    ensures { λ r. ⌜ (r ≡ s -ℤ u *ℤ pos (2 ^ 27) -ℤ v *ℤ pos (2 ^ 26)) × (natAbs r ≤ 2 ^ 58) ⌝ }
+{
+    s - u * 134217728 - v * 67108864
+}
+
+// e (p - 2^27) - f (q - 2^27).
+fn turn_less(e: i32, f: i32, p: i32, q: i32) -> i64
+    requires { ⌜ (natAbs e ≤ 2 ^ 26) × (natAbs f ≤ 2 ^ 26) × (natAbs (p -ℤ pos (2 ^ 27)) ≤ 2 ^ 27) × (natAbs (q -ℤ pos (2 ^ 27)) ≤ 2 ^ 27) ⌝ }
+    ensures { λ r. ⌜ r ≡ e *ℤ (p -ℤ pos (2 ^ 27)) -ℤ f *ℤ (q -ℤ pos (2 ^ 27)) ⌝ }
+{
+    let a = up(e);
+    let b = up(f);
+    let c = plain(p);
+    let d = plain(q);
+    lowered(
+        (a * c) as i64 - (b * d) as i64,
+        a as i64 - b as i64,
+        c as i64 - d as i64,
+    )
+}
+
+// e (p - 2^27) + f (q - 2^27).
+fn turn_more(e: i32, f: i32, p: i32, q: i32) -> i64
+    requires { ⌜ (natAbs e ≤ 2 ^ 26) × (natAbs f ≤ 2 ^ 26) × (natAbs (p -ℤ pos (2 ^ 27)) ≤ 2 ^ 27) × (natAbs (q -ℤ pos (2 ^ 27)) ≤ 2 ^ 27) ⌝ }
+    ensures { λ r. ⌜ r ≡ e *ℤ (p -ℤ pos (2 ^ 27)) +ℤ f *ℤ (q -ℤ pos (2 ^ 27)) ⌝ }
+{
+    let a = up(e);
+    let b = up(f);
+    let c = plain(p);
+    let d = plain(q);
+    lowered((a * c + b * d) as i64, (a + b) as i64, (c + d) as i64) + 18014398509481984
+}
+
 // rB at place n.
 fn rb_at(y: &[i32], eb: &[i32], fb: &[i32], n: usize) -> i32
-    requires { ⌜ (n < length (now y) / 3) × Small (now y) (2 ^ 23) × (now eb ≡ rotation eB (length (now y))) × (now fb ≡ rotation fB (length (now y))) ⌝ }
+    requires { ⌜ (n < length (now y) / 3) × Small (now y) (2 ^ 23) × (now eb ≡ lifted eB (length (now y))) × (now fb ≡ lifted fB (length (now y))) ⌝ }
     ensures { λ r. ⌜ r ≡ rB (length (now (y .entry))) (at (now (y .entry))) n ⌝ }
 {
-    let turned = product(e_at(y, n), eb[n]) - product(f_at(y, n), fb[n]);
-    arithmetic::rnd_shift(turned, 26) as i32
+    arithmetic::rnd_shift(turn_less(e_at(y, n), f_at(y, n), eb[n], fb[n]), 26) as i32
 }
 
 // rC at place n.
 fn rc_at(y: &[i32], ec: &[i32], fc: &[i32], n: usize) -> i32
-    requires { ⌜ (n < length (now y) / 3) × Small (now y) (2 ^ 23) × (now ec ≡ rotation eC (length (now y))) × (now fc ≡ rotation fC (length (now y))) ⌝ }
+    requires { ⌜ (n < length (now y) / 3) × Small (now y) (2 ^ 23) × (now ec ≡ lifted eC (length (now y))) × (now fc ≡ lifted fC (length (now y))) ⌝ }
     ensures { λ r. ⌜ r ≡ rC (length (now (y .entry))) (at (now (y .entry))) n ⌝ }
 {
-    let turned = product(e_at(y, n), ec[n]) + product(f_at(y, n), fc[n]);
-    arithmetic::rnd_shift(turned, 26) as i32
+    arithmetic::rnd_shift(turn_more(e_at(y, n), f_at(y, n), ec[n], fc[n]), 26) as i32
 }
 
 // rC at place n, its sign changed where n + N/12 is even.
 fn signed_rc_at(y: &[i32], ec: &[i32], fc: &[i32], n: usize) -> i32
-    requires { ⌜ (n < length (now y) / 3) × Small (now y) (2 ^ 23) × (now ec ≡ rotation eC (length (now y))) × (now fc ≡ rotation fC (length (now y))) ⌝ }
+    requires { ⌜ (n < length (now y) / 3) × Small (now y) (2 ^ 23) × (now ec ≡ lifted eC (length (now y))) × (now fc ≡ lifted fC (length (now y))) ⌝ }
     ensures { λ r. ⌜ r ≡ turnedC (length (now (y .entry))) (at (now (y .entry))) n ⌝ }
 {
     let r = rc_at(y, ec, fc, n);
@@ -102,7 +154,7 @@ fn fill_middle(y: &[i32], w: &mut [i32])
 }
 
 fn fill_rb(y: &[i32], eb: &[i32], fb: &[i32], w: &mut [i32])
-    requires { ⌜ (length (now w) ≡ length (now y) / 3) × Small (now y) (2 ^ 23) × (now eb ≡ rotation eB (length (now y))) × (now fb ≡ rotation fB (length (now y))) ⌝ }
+    requires { ⌜ (length (now w) ≡ length (now y) / 3) × Small (now y) (2 ^ 23) × (now eb ≡ lifted eB (length (now y))) × (now fb ≡ lifted fB (length (now y))) ⌝ }
     ensures { λ _. ⌜ now (w .exit) ≡ table (length (now (y .entry)) / 3) (rB (length (now (y .entry))) (at (now (y .entry)))) ⌝ }
 {
     for n in 0..w.len() {
@@ -111,7 +163,7 @@ fn fill_rb(y: &[i32], eb: &[i32], fb: &[i32], w: &mut [i32])
 }
 
 fn fill_rc(y: &[i32], ec: &[i32], fc: &[i32], w: &mut [i32])
-    requires { ⌜ (length (now w) ≡ length (now y) / 3) × Small (now y) (2 ^ 23) × (now ec ≡ rotation eC (length (now y))) × (now fc ≡ rotation fC (length (now y))) ⌝ }
+    requires { ⌜ (length (now w) ≡ length (now y) / 3) × Small (now y) (2 ^ 23) × (now ec ≡ lifted eC (length (now y))) × (now fc ≡ lifted fC (length (now y))) ⌝ }
     ensures { λ _. ⌜ now (w .exit) ≡ table (length (now (y .entry)) / 3) (turnedC (length (now (y .entry))) (at (now (y .entry)))) ⌝ }
 {
     for n in 0..w.len() {
@@ -119,62 +171,30 @@ fn fill_rc(y: &[i32], ec: &[i32], fc: &[i32], w: &mut [i32])
     }
 }
 
-// Place j of the inputs w, folded to half their number.
-fn folded_at(w: &[i32], j: usize) -> i32
-    requires { ⌜ (4 * (length (now w) / 4) ≡ length (now w)) × (j < length (now w) / 2) × Small (now w) (2 ^ 26) ⌝ }
-    ensures { λ r. ⌜ r ≡ folded (length (now (w .entry))) (at (now (w .entry))) j ⌝ }
-{
-    let h = w.len() / 4;
-    if j < h {
-        -w[3 * h - 1 - j] - w[3 * h + j]
-    } else {
-        w[j - h] - w[3 * h - 1 - j]
-    }
-}
-
-fn fold(w: &[i32], z: &mut [i32])
-    requires { ⌜ (4 * (length (now w) / 4) ≡ length (now w)) × (2 * length (now z) ≡ length (now w)) × Small (now w) (2 ^ 26) ⌝ }
-    ensures { λ _. ⌜ now (z .exit) ≡ table (length (now (z .entry))) (folded (length (now (w .entry))) (at (now (w .entry)))) ⌝ }
-{
-    for j in 0..z.len() {
-        z[j] = folded_at(w, j);
-    }
-}
-
-// The sums of a part's inputs w with its kernel, unrounded. Its rows are lent, and room for the folded inputs.
-fn part_sums(w: &[i32], rows: &[i32], z: &mut [i32], t: &mut [i64])
-    requires { ⌜ Part (length (now w)) × (length (now w) ≤ 128) × (now rows ≡ rowList (length (now w))) × (2 * length (now z) ≡ length (now w)) × (length (now t) ≡ length (now z)) × Small (now w) (2 ^ 26) ⌝ }
-    ensures { λ _. ⌜ now (t .exit) ≡ table (length (now (t .entry))) (S (length (now (w .entry))) (at (now (w .entry)))) ⌝ }
-{
-    fold(w, z);
-    sums(z, rows, t);
-}
-
-// The sums of the three parts of N/3, w being a part's inputs. The part's rows are lent, and room for the folded inputs.
-// A length's function calls these and the three that fill w by itself, so that the compiler knows every count.
+// The sums of the three parts of N/3, z being a part's inputs, folded and lifted, and the last argument their sums with the lifted kernel, which is lent.
 
 // A(k), from a - b + c.
-fn a_sums(y: &[i32], w: &[i32], rows: &[i32], z: &mut [i32], a: &mut [i64])
-    requires { ⌜ T (offered (length (now y))) × Small (now y) (2 ^ 23) × (now w ≡ table (length (now y) / 3) (middle (length (now y)) (at (now y)))) × (now rows ≡ rowList (length (now y) / 3)) × (length (now z) ≡ length (now y) / 6) × (length (now a) ≡ length (now y) / 6) ⌝ }
+fn a_sums(y: &[i32], z: &[i32], rows: &[i32], base: &[i32], a: &mut [i64])
+    requires { ⌜ T (offered (length (now y))) × Small (now y) (2 ^ 23) × (now z ≡ inputs (table (length (now y) / 3) (middle (length (now y)) (at (now y))))) × (now rows ≡ liftList (length (now y) / 3)) × (now base ≡ baseList (length (now y) / 3)) × (now a ≡ table (length (now z)) (raised (now z) (now rows))) ⌝ }
     ensures { λ _. ⌜ now (a .exit) ≡ sumsA (length (now (y .entry))) (at (now (y .entry))) ⌝ }
 {
-    part_sums(w, rows, z, a);
+    lower(z, base, a);
 }
 
 // B(k), from rB.
-fn b_sums(y: &[i32], w: &[i32], rows: &[i32], z: &mut [i32], b: &mut [i64])
-    requires { ⌜ T (offered (length (now y))) × Small (now y) (2 ^ 23) × (now w ≡ table (length (now y) / 3) (rB (length (now y)) (at (now y)))) × (now rows ≡ rowList (length (now y) / 3)) × (length (now z) ≡ length (now y) / 6) × (length (now b) ≡ length (now y) / 6) ⌝ }
+fn b_sums(y: &[i32], z: &[i32], rows: &[i32], base: &[i32], b: &mut [i64])
+    requires { ⌜ T (offered (length (now y))) × Small (now y) (2 ^ 23) × (now z ≡ inputs (table (length (now y) / 3) (rB (length (now y)) (at (now y))))) × (now rows ≡ liftList (length (now y) / 3)) × (now base ≡ baseList (length (now y) / 3)) × (now b ≡ table (length (now z)) (raised (now z) (now rows))) ⌝ }
     ensures { λ _. ⌜ now (b .exit) ≡ sumsB (length (now (y .entry))) (at (now (y .entry))) ⌝ }
 {
-    part_sums(w, rows, z, b);
+    lower(z, base, b);
 }
 
 // G(k), from rC with its signs.
-fn g_sums(y: &[i32], w: &[i32], rows: &[i32], z: &mut [i32], g: &mut [i64])
-    requires { ⌜ T (offered (length (now y))) × Small (now y) (2 ^ 23) × (now w ≡ table (length (now y) / 3) (turnedC (length (now y)) (at (now y)))) × (now rows ≡ rowList (length (now y) / 3)) × (length (now z) ≡ length (now y) / 6) × (length (now g) ≡ length (now y) / 6) ⌝ }
+fn g_sums(y: &[i32], z: &[i32], rows: &[i32], base: &[i32], g: &mut [i64])
+    requires { ⌜ T (offered (length (now y))) × Small (now y) (2 ^ 23) × (now z ≡ inputs (table (length (now y) / 3) (turnedC (length (now y)) (at (now y))))) × (now rows ≡ liftList (length (now y) / 3)) × (now base ≡ baseList (length (now y) / 3)) × (now g ≡ table (length (now z)) (raised (now z) (now rows))) ⌝ }
     ensures { λ _. ⌜ now (g .exit) ≡ sumsG (length (now (y .entry))) (at (now (y .entry))) ⌝ }
 {
-    part_sums(w, rows, z, g);
+    lower(z, base, g);
 }
 
 // B(k) + D(k) and B(k) - D(k), with D(k) = G(N/6-1-k).
@@ -198,71 +218,180 @@ fn outer_sums(y: &[i32], b: &[i64], g: &[i64], plus: &mut [i64], minus: &mut [i6
     join(b, g, plus, minus);
 }
 
-// The split of y, at each length.
+// The split of y, at each length: the inputs of its parts first, and then their sums. A length's functions call all the others by themselves, so that
+// the compiler knows every count.
+fn inputs_12(y: &[i32], za: &mut [i32], zb: &mut [i32], zg: &mut [i32])
+    requires { ⌜ (length (now y) ≡ 12) × Small (now y) (2 ^ 23) × (length (now za) ≡ 2) × (length (now zb) ≡ 2) × (length (now zg) ≡ 2) ⌝ }
+    ensures { λ _. ⌜ Inputs (length (now (y .entry))) (at (now (y .entry))) (now (za .exit)) (now (zb .exit)) (now (zg .exit)) ⌝ }
+{
+    let mut w = [0i32; 4];
+    let mut z = [0i32; 2];
+    fill_middle(y, &mut w);
+    part_inputs(&w, &mut z, za);
+    fill_rb(y, &tables::EB_12, &tables::FB_12, &mut w);
+    part_inputs(&w, &mut z, zb);
+    fill_rc(y, &tables::EC_12, &tables::FC_12, &mut w);
+    part_inputs(&w, &mut z, zg);
+}
+
 pub fn split_12(y: &[i32], a: &mut [i64], plus: &mut [i64], minus: &mut [i64])
     requires { ⌜ (length (now y) ≡ 12) × Small (now y) (2 ^ 23) × (length (now a) ≡ 2) × (length (now plus) ≡ 2) × (length (now minus) ≡ 2) ⌝ }
     ensures { λ _. ⌜ Unrounded (length (now (y .entry))) (at (now (y .entry))) (now (a .exit)) (now (plus .exit)) (now (minus .exit)) ⌝ }
 {
-    let mut w = [0i32; 4];
-    let mut z = [0i32; 2];
+    let mut za = [0i32; 2];
+    let mut zb = [0i32; 2];
+    let mut zg = [0i32; 2];
     let mut b = [0i64; 2];
     let mut g = [0i64; 2];
-    fill_middle(y, &mut w);
-    a_sums(y, &w, &tables::ROWS_4, &mut z, a);
-    fill_rb(y, &tables::EB_12, &tables::FB_12, &mut w);
-    b_sums(y, &w, &tables::ROWS_4, &mut z, &mut b);
-    fill_rc(y, &tables::EC_12, &tables::FC_12, &mut w);
-    g_sums(y, &w, &tables::ROWS_4, &mut z, &mut g);
+    inputs_12(y, &mut za, &mut zb, &mut zg);
+    three(&za, &zb, &zg, &tables::ROWS_4, a, &mut b, &mut g);
+    a_sums(y, &za, &tables::ROWS_4, &tables::BASE_4, a);
+    b_sums(y, &zb, &tables::ROWS_4, &tables::BASE_4, &mut b);
+    g_sums(y, &zg, &tables::ROWS_4, &tables::BASE_4, &mut g);
     outer_sums(y, &b, &g, plus, minus);
+}
+
+fn inputs_24(y: &[i32], za: &mut [i32], zb: &mut [i32], zg: &mut [i32])
+    requires { ⌜ (length (now y) ≡ 24) × Small (now y) (2 ^ 23) × (length (now za) ≡ 4) × (length (now zb) ≡ 4) × (length (now zg) ≡ 4) ⌝ }
+    ensures { λ _. ⌜ Inputs (length (now (y .entry))) (at (now (y .entry))) (now (za .exit)) (now (zb .exit)) (now (zg .exit)) ⌝ }
+{
+    let mut w = [0i32; 8];
+    let mut z = [0i32; 4];
+    fill_middle(y, &mut w);
+    part_inputs(&w, &mut z, za);
+    fill_rb(y, &tables::EB_24, &tables::FB_24, &mut w);
+    part_inputs(&w, &mut z, zb);
+    fill_rc(y, &tables::EC_24, &tables::FC_24, &mut w);
+    part_inputs(&w, &mut z, zg);
 }
 
 pub fn split_24(y: &[i32], a: &mut [i64], plus: &mut [i64], minus: &mut [i64])
     requires { ⌜ (length (now y) ≡ 24) × Small (now y) (2 ^ 23) × (length (now a) ≡ 4) × (length (now plus) ≡ 4) × (length (now minus) ≡ 4) ⌝ }
     ensures { λ _. ⌜ Unrounded (length (now (y .entry))) (at (now (y .entry))) (now (a .exit)) (now (plus .exit)) (now (minus .exit)) ⌝ }
 {
-    let mut w = [0i32; 8];
-    let mut z = [0i32; 4];
+    let mut za = [0i32; 4];
+    let mut zb = [0i32; 4];
+    let mut zg = [0i32; 4];
     let mut b = [0i64; 4];
     let mut g = [0i64; 4];
-    fill_middle(y, &mut w);
-    a_sums(y, &w, &tables::ROWS_8, &mut z, a);
-    fill_rb(y, &tables::EB_24, &tables::FB_24, &mut w);
-    b_sums(y, &w, &tables::ROWS_8, &mut z, &mut b);
-    fill_rc(y, &tables::EC_24, &tables::FC_24, &mut w);
-    g_sums(y, &w, &tables::ROWS_8, &mut z, &mut g);
+    inputs_24(y, &mut za, &mut zb, &mut zg);
+    three(&za, &zb, &zg, &tables::ROWS_8, a, &mut b, &mut g);
+    a_sums(y, &za, &tables::ROWS_8, &tables::BASE_8, a);
+    b_sums(y, &zb, &tables::ROWS_8, &tables::BASE_8, &mut b);
+    g_sums(y, &zg, &tables::ROWS_8, &tables::BASE_8, &mut g);
     outer_sums(y, &b, &g, plus, minus);
+}
+
+fn inputs_36(y: &[i32], za: &mut [i32], zb: &mut [i32], zg: &mut [i32])
+    requires { ⌜ (length (now y) ≡ 36) × Small (now y) (2 ^ 23) × (length (now za) ≡ 6) × (length (now zb) ≡ 6) × (length (now zg) ≡ 6) ⌝ }
+    ensures { λ _. ⌜ Inputs (length (now (y .entry))) (at (now (y .entry))) (now (za .exit)) (now (zb .exit)) (now (zg .exit)) ⌝ }
+{
+    let mut w = [0i32; 12];
+    let mut z = [0i32; 6];
+    fill_middle(y, &mut w);
+    part_inputs(&w, &mut z, za);
+    fill_rb(y, &tables::EB_36, &tables::FB_36, &mut w);
+    part_inputs(&w, &mut z, zb);
+    fill_rc(y, &tables::EC_36, &tables::FC_36, &mut w);
+    part_inputs(&w, &mut z, zg);
 }
 
 pub fn split_36(y: &[i32], a: &mut [i64], plus: &mut [i64], minus: &mut [i64])
     requires { ⌜ (length (now y) ≡ 36) × Small (now y) (2 ^ 23) × (length (now a) ≡ 6) × (length (now plus) ≡ 6) × (length (now minus) ≡ 6) ⌝ }
     ensures { λ _. ⌜ Unrounded (length (now (y .entry))) (at (now (y .entry))) (now (a .exit)) (now (plus .exit)) (now (minus .exit)) ⌝ }
 {
-    let mut w = [0i32; 12];
-    let mut z = [0i32; 6];
+    let mut za = [0i32; 6];
+    let mut zb = [0i32; 6];
+    let mut zg = [0i32; 6];
     let mut b = [0i64; 6];
     let mut g = [0i64; 6];
-    fill_middle(y, &mut w);
-    a_sums(y, &w, &transform::tables::ROWS_12, &mut z, a);
-    fill_rb(y, &tables::EB_36, &tables::FB_36, &mut w);
-    b_sums(y, &w, &transform::tables::ROWS_12, &mut z, &mut b);
-    fill_rc(y, &tables::EC_36, &tables::FC_36, &mut w);
-    g_sums(y, &w, &transform::tables::ROWS_12, &mut z, &mut g);
+    inputs_36(y, &mut za, &mut zb, &mut zg);
+    three(
+        &za,
+        &zb,
+        &zg,
+        &transform::tables::ROWS_12,
+        a,
+        &mut b,
+        &mut g,
+    );
+    a_sums(
+        y,
+        &za,
+        &transform::tables::ROWS_12,
+        &transform::tables::BASE_12,
+        a,
+    );
+    b_sums(
+        y,
+        &zb,
+        &transform::tables::ROWS_12,
+        &transform::tables::BASE_12,
+        &mut b,
+    );
+    g_sums(
+        y,
+        &zg,
+        &transform::tables::ROWS_12,
+        &transform::tables::BASE_12,
+        &mut g,
+    );
     outer_sums(y, &b, &g, plus, minus);
+}
+
+fn inputs_72(y: &[i32], za: &mut [i32], zb: &mut [i32], zg: &mut [i32])
+    requires { ⌜ (length (now y) ≡ 72) × Small (now y) (2 ^ 23) × (length (now za) ≡ 12) × (length (now zb) ≡ 12) × (length (now zg) ≡ 12) ⌝ }
+    ensures { λ _. ⌜ Inputs (length (now (y .entry))) (at (now (y .entry))) (now (za .exit)) (now (zb .exit)) (now (zg .exit)) ⌝ }
+{
+    let mut w = [0i32; 24];
+    let mut z = [0i32; 12];
+    fill_middle(y, &mut w);
+    part_inputs(&w, &mut z, za);
+    fill_rb(y, &tables::EB_72, &tables::FB_72, &mut w);
+    part_inputs(&w, &mut z, zb);
+    fill_rc(y, &tables::EC_72, &tables::FC_72, &mut w);
+    part_inputs(&w, &mut z, zg);
 }
 
 pub fn split_72(y: &[i32], a: &mut [i64], plus: &mut [i64], minus: &mut [i64])
     requires { ⌜ (length (now y) ≡ 72) × Small (now y) (2 ^ 23) × (length (now a) ≡ 12) × (length (now plus) ≡ 12) × (length (now minus) ≡ 12) ⌝ }
     ensures { λ _. ⌜ Unrounded (length (now (y .entry))) (at (now (y .entry))) (now (a .exit)) (now (plus .exit)) (now (minus .exit)) ⌝ }
 {
-    let mut w = [0i32; 24];
-    let mut z = [0i32; 12];
+    let mut za = [0i32; 12];
+    let mut zb = [0i32; 12];
+    let mut zg = [0i32; 12];
     let mut b = [0i64; 12];
     let mut g = [0i64; 12];
-    fill_middle(y, &mut w);
-    a_sums(y, &w, &transform::tables::ROWS_24, &mut z, a);
-    fill_rb(y, &tables::EB_72, &tables::FB_72, &mut w);
-    b_sums(y, &w, &transform::tables::ROWS_24, &mut z, &mut b);
-    fill_rc(y, &tables::EC_72, &tables::FC_72, &mut w);
-    g_sums(y, &w, &transform::tables::ROWS_24, &mut z, &mut g);
+    inputs_72(y, &mut za, &mut zb, &mut zg);
+    three(
+        &za,
+        &zb,
+        &zg,
+        &transform::tables::ROWS_24,
+        a,
+        &mut b,
+        &mut g,
+    );
+    a_sums(
+        y,
+        &za,
+        &transform::tables::ROWS_24,
+        &transform::tables::BASE_24,
+        a,
+    );
+    b_sums(
+        y,
+        &zb,
+        &transform::tables::ROWS_24,
+        &transform::tables::BASE_24,
+        &mut b,
+    );
+    g_sums(
+        y,
+        &zg,
+        &transform::tables::ROWS_24,
+        &transform::tables::BASE_24,
+        &mut g,
+    );
     outer_sums(y, &b, &g, plus, minus);
 }

@@ -36,7 +36,7 @@ fn sample(n: usize, tail: i64, v: i64) -> i16
     requires { ⌜ (0 < n) × (n ≤ 2 * storage) × (natAbs tail ≤ n / 2 * 2 ^ 55) × (natAbs v ≤ n / 2 * 2 ^ 55) ⌝ }
     ensures { λ r. ⌜ r ≡ clamp (rnd (tail +ℤ v) (n * 2 ^ 30)) ⌝ }
 {
-    arithmetic::clamp(arithmetic::rnd_scaled(tail + v, n))
+    arithmetic::sample(tail + v, n)
 }
 
 // The hop: M samples, from the tail and the first half of V.
@@ -106,7 +106,7 @@ fn advance_72(x: &[i32], tail: &mut [i64], out: &mut [i16])
 }
 
 // One step on valid input, in place: the hop into `out`, and the new tail in `tail`.
-fn advance_tail(n: usize, x: &[i32], tail: &mut [i64], out: &mut [i16])
+pub fn advance_tail(n: usize, x: &[i32], tail: &mut [i64], out: &mut [i16])
     requires { ⌜ T (tabled n) × (length (now x) ≡ n / 2) × Small (now x) (2 ^ 29) × (length (now tail) ≡ storage) × Bounded (n / 2) (now tail) × (length (now out) ≡ n / 2) ⌝ }
     ensures { λ _. ⌜ (now (tail .exit) ≡ newTail n (rising n) (falling n) (now (tail .entry)) (now (x .entry))) × (now (out .exit) ≡ hop n (rising n) (falling n) (now (tail .entry)) (now (x .entry))) ⌝ }
 {

@@ -1,13 +1,12 @@
 -- Laws of the direct route: what it depends on, and the coefficients from the folded block and the rows that the code has.
 use mathlib.Core.Path.{_≡_, sym, ap, _∙_}
 use mathlib.Core.List.{List}
-use Prim.Native.Nat.{ℕ, _+_, _-_, _*_, _/_, _^_, _≤_, _<_}
+use Prim.Native.Nat.{ℕ, _-_, _*_, _/_, _^_, _≤_, _<_}
 use native.Mathlib.Omega.{arith}
 use native.Mathlib.Decide.{decLt}
 use lib.Dec.{T}
 use lib.IntN.{ℤ, pos, _*ℤ_}
 use Rattle.arithmetic.specs.Rounding.{rnd}
-use Rattle.arithmetic.specs.Sums.{sum}
 use Rattle.arithmetic.specs.Lists.{at, table}
 use Rattle.arithmetic.specs.ListLaws.{table-ext, getD-table}
 use Rattle.arithmetic.specs.SumLaws.{sum-ext}
@@ -17,7 +16,8 @@ use Rattle.cosine.specs.KernelLaws.{F-symmetric}
 use Rattle.transform.specs.Analysis.{window, y, S, X, direct}
 use Rattle.transform.specs.FoldLaws.{folded, S-folded}
 use Rattle.transform.specs.SizeLaws.{window-left, window-right}
-use Rattle.transform.specs.RowLaws.{riseList, fallList, rowList, rise-at, fall-at, row-at}
+use Rattle.transform.specs.HalfLaws.{riseList, fallList, rise-at, fall-at}
+use Rattle.transform.specs.InverseLaws.{folds}
 
 -- the windowed block depends on M entries of each half
 pub y-ext : (N : ℕ) → Part N → (l r l′ r′ : ℕ → ℤ) (x : List ℤ) → ((n : ℕ) → n < N / 2 → l n ≡ l′ n) → ((n : ℕ) → n < N / 2 → r n ≡ r′ n) →
@@ -44,19 +44,19 @@ direct-ext N u v e = table-ext (N / 2) (X N u) (X N v) (λ k p. ap (λ (z : ℤ)
 pub y-lent : (N : ℕ) → T (tabled N) → (x : List ℤ) (n : ℕ) → n < N → y N (at (riseList N)) (at (fallList N)) x n ≡ y N (rising N) (falling N) x n
 y-lent N t x = y-ext N (part-of N t) (at (riseList N)) (at (fallList N)) (rising N) (falling N) x (rise-at N) (fall-at N)
 
--- S from the folded block and the rows that the code has
-pub S-rows : (N : ℕ) → Part N → (u : ℕ → ℤ) (k : ℕ) → k < N / 2 → sum (N / 2) (λ j. at (table (N / 2) (folded N u)) j *ℤ at (rowList N) (k * (N / 2) + j)) ≡ S N u k
-S-rows N len u k p =
-    sum-ext (N / 2) (λ j. at (table (N / 2) (folded N u)) j *ℤ at (rowList N) (k * (N / 2) + j)) (λ j. folded N u j *ℤ F N j k)
-    (λ j q. rw (getD-table (folded N u) (pos 0) (N / 2) j q, row-at N k j p q, F-symmetric N k j))
+-- the sums of the folded block with the kernel are S, and their rounded quotients the coefficients
+pub S-folds : (N : ℕ) → Part N → (u : ℕ → ℤ) (k : ℕ) → folds N (table (N / 2) (folded N u)) k ≡ S N u k
+unfolding folds
+S-folds N len u k =
+    sum-ext (N / 2) (λ j. at (table (N / 2) (folded N u)) j *ℤ F N k j) (λ j. folded N u j *ℤ F N j k)
+    (λ j q. rw (getD-table (folded N u) (pos 0) (N / 2) j q, F-symmetric N k j))
     ∙ sym (S-folded N len u k)
 
-pub direct-folded : (N : ℕ) → T (tabled N) → (u : ℕ → ℤ) →
-    table (N / 2) (λ k. rnd (sum (N / 2) (λ j. at (table (N / 2) (folded N u)) j *ℤ at (rowList N) (k * (N / 2) + j))) (2 ^ 28)) ≡ direct N u
+pub direct-folded : (N : ℕ) → T (tabled N) → (u : ℕ → ℤ) → table (N / 2) (λ k. rnd (folds N (table (N / 2) (folded N u)) k) (2 ^ 28)) ≡ direct N u
 unfolding direct X
 direct-folded N t u =
-    table-ext (N / 2) (λ k. rnd (sum (N / 2) (λ j. at (table (N / 2) (folded N u)) j *ℤ at (rowList N) (k * (N / 2) + j))) (2 ^ 28)) (X N u)
-    (λ k p. ap (λ (z : ℤ). rnd z (2 ^ 28)) (S-rows N (part-of N t) u k p))
+    table-ext (N / 2) (λ k. rnd (folds N (table (N / 2) (folded N u)) k) (2 ^ 28)) (X N u)
+    (λ k p. ap (λ (z : ℤ). rnd z (2 ^ 28)) (S-folds N (part-of N t) u k))
 
 -- ---- what the code has, step by step: the lists that are lent, the folded block, the coefficients
 module _ (N : ℕ) (t : T (tabled N)) (x : List ℤ) where
@@ -69,10 +69,12 @@ module _ (N : ℕ) (t : T (tabled N)) (x : List ℤ) where
       let two : 2 * (N / 2) ≡ N = omega (arith, length-of N t .twelve) in
       rw (e, two, l, r) at h
 
-  pub direct-step : (m : ℕ) (rows z out : List ℤ) → m ≡ N / 2 → rows ≡ rowList N → z ≡ table (N / 2) (folded N lent) →
-      out ≡ table m (λ k. rnd (sum m (λ j. at z j *ℤ at rows (k * m + j))) (2 ^ 28)) → out ≡ direct N (y N (rising N) (falling N) x)
-  direct-step m rows z out e r f h =
-      rw (e, r, f) at h
+  pub direct-step : (m : ℕ) (z s out : List ℤ) → m ≡ N / 2 → z ≡ table (N / 2) (folded N lent) → s ≡ table (N / 2) (folds N z) →
+      out ≡ table m (λ k. rnd (at s k) (2 ^ 28)) → out ≡ direct N (y N (rising N) (falling N) x)
+  direct-step m z s out e f g h =
+      rw e at h
+      ∙ table-ext (N / 2) (λ k. rnd (at s k) (2 ^ 28)) (λ k. rnd (folds N (table (N / 2) (folded N lent)) k) (2 ^ 28))
+      (λ k p. ap (λ (z : ℤ). rnd z (2 ^ 28)) (ap (λ (l : List ℤ). at l k) g ∙ getD-table (folds N z) (pos 0) (N / 2) k p ∙ ap (λ (l : List ℤ). folds N l k) f))
       ∙ direct-folded N t lent
       ∙ direct-ext N lent (y N (rising N) (falling N) x) (y-lent N t x)
 

@@ -13,14 +13,13 @@ use Rattle.arithmetic.specs.Sums.{sum}
 use Rattle.arithmetic.specs.Lists.{at, table}
 use Rattle.arithmetic.specs.ListLaws.{table-ext, length-table, getD-table}
 use Rattle.arithmetic.specs.TestLaws.{cond-lt, cond-ge}
-use Rattle.arithmetic.specs.SumLaws.{sum-ext}
 use Rattle.cosine.specs.Kernels.{tabled, rising, falling, F}
 use Rattle.cosine.specs.LengthLaws.{Part, part-of, length-of}
 use Rattle.transform.specs.Analysis.{window}
 use Rattle.transform.specs.Synthesis.{U, V′}
 use Rattle.transform.specs.FoldLaws.{inverse-first, inverse-middle, inverse-last}
 use Rattle.transform.specs.SizeLaws.{window-left, window-right}
-use Rattle.transform.specs.RowLaws.{riseList, fallList, rowList, rise-at, fall-at, row-at}
+use Rattle.transform.specs.HalfLaws.{riseList, fallList, rise-at, fall-at}
 
 -- the sum over k of X(k) × F(j,k)
 unfoldable pub folds : ℕ → List ℤ → ℕ → ℤ
@@ -154,15 +153,8 @@ V-ext N len l r l′ r′ X p q n b = go (decLt n (N / 2))
         let v : N / 2 ≤ n = omega arith in
         rw (window-right N l r n v, window-right N l′ r′ n v, q (n - N / 2) (omega (arith, len .four)))
 
--- ---- what the code has: the sums from the rows, and V from the lists that are lent
+-- ---- what the code has: V from the lists that are lent
 module _ (N : ℕ) (t : T (tabled N)) (X : List ℤ) where
-  pub folds-step : (m : ℕ) (rows s : List ℤ) → m ≡ N / 2 → rows ≡ rowList N → s ≡ table m (λ j. sum m (λ k. at X k *ℤ at rows (j * m + k))) → s ≡ table (N / 2) (folds N X)
-  unfolding folds
-  folds-step m rows s e r h =
-      rw (e, r) at h
-      ∙ table-ext (N / 2) (λ j. sum (N / 2) (λ k. at X k *ℤ at (rowList N) (j * (N / 2) + k))) (λ j. sum (N / 2) (λ k. at X k *ℤ F N j k))
-      (λ j p. sum-ext (N / 2) (λ k. at X k *ℤ at (rowList N) (j * (N / 2) + k)) (λ k. at X k *ℤ F N j k) (λ k q. ap (λ (z : ℤ). at X k *ℤ z) (row-at N j k p q)))
-
   pub value-step : (left right s v : List ℤ) (n : ℕ) → n ≡ N → left ≡ riseList N → right ≡ fallList N → s ≡ table (N / 2) (folds N X) →
       v ≡ table n (valueAt left right s) → v ≡ table N (V′ N (rising N) (falling N) X)
   value-step left right s v n e l r f h =
@@ -172,7 +164,3 @@ module _ (N : ℕ) (t : T (tabled N)) (X : List ℤ) where
       (λ n p. rw two at (value-is (N / 2)) (part-of N t) (riseList N) (fallList N) s X f n p)
       ∙ table-ext N (V′ N (at (riseList N)) (at (fallList N)) X) (V′ N (rising N) (falling N) X)
       (V-ext N (part-of N t) (at (riseList N)) (at (fallList N)) (rising N) (falling N) X (rise-at N) (fall-at N))
-
--- the same at a length under another name
-pub V-at : (n N : ℕ) (X v : List ℤ) → n ≡ N → v ≡ table N (V′ N (rising N) (falling N) X) → v ≡ table n (V′ n (rising n) (falling n) X)
-V-at n N X v e h = rw e h

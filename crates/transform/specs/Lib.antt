@@ -3,6 +3,7 @@ pub mod Synthesis
 pub mod FoldLaws
 pub mod SizeLaws
 pub mod HopLaws
-pub mod RowLaws
+pub mod HalfLaws
 pub mod DirectLaws
 pub mod InverseLaws
+pub mod LiftLaws

@@ -15,7 +15,7 @@ fn weighted(w: i32, x: i16) -> i64
 }
 
 // Sample n, windowed by entry i of a half of the joint.
-pub fn windowed(half: &[i32], i: usize, x: &[i16], n: usize) -> i32
+fn windowed(half: &[i32], i: usize, x: &[i16], n: usize) -> i32
     requires { ⌜ Small (now half) (2 ^ 26) × (i < length (now half)) × (n < length (now x)) ⌝ }
     ensures { λ r. ⌜ (r ≡ windowed (now (half .entry)) i (now (x .entry)) n) × (natAbs r ≤ 2 ^ 23) ⌝ }
 {

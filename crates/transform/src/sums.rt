@@ -1,46 +1,115 @@
-// Sums of products, and the rounded sums of an analysis.
+// Sums of products with the folded kernel, and the rounded sums of an analysis.
+// A vector unit that has no signed products multiplies numbers of 32 bits two at a time if none is negative. So a sum's inputs and the kernel's
+// numbers are lifted, a power of two added to each, and what that adds to a sum is taken off at its end.
 ghost use mathlib.Core.Path.{_≡_};
-ghost use Prim.Native.Nat.{_+_, _*_, _^_, _≤_};
+ghost use Prim.Native.Nat.{_+_, _*_, _/_, _^_, _≤_, _<_};
 ghost use lib.ListN.{length};
-ghost use lib.IntN.{_*ℤ_};
+ghost use lib.IntN.{pos, natAbs, _-ℤ_, _*ℤ_};
+ghost use lib.Signed.{_≤ℤ_};
 ghost use Rattle.arithmetic.specs.Rounding.{rnd};
 ghost use Rattle.arithmetic.specs.Sums.{sum};
 ghost use Rattle.arithmetic.specs.Lists.{at, table, Small};
+ghost use Rattle.transform.specs.InverseLaws.{folds};
+ghost use Rattle.transform.specs.LiftLaws.{Lifted, lifted, liftList, baseList, raised, lowered};
 
-pub fn product(a: i32, b: i32) -> i64
-    ensures { λ r. ⌜ r ≡ a *ℤ b ⌝ }
+// The lift of an input, 2^29, and of a number of the kernel, 2^26.
+const INPUT: i32 = 536870912;
+
+const KERNEL: i64 = 67108864;
+
+// A sum's inputs, lifted.
+pub fn lift(x: &[i32], z: &mut [i32])
+    requires { ⌜ (length (now z) ≡ length (now x)) × Small (now x) (2 ^ 29) ⌝ }
+    ensures { λ _. ⌜ now (z .exit) ≡ lifted (now (x .entry)) ⌝ }
 {
-    a as i64 * b as i64
+    for j in 0..x.len() {
+        z[j] = x[j] + INPUT;
+    }
 }
 
-// The sum of a(j) × b(j). The bounds are those of the largest sum, the inverse's: coefficients times a row of the kernel.
-pub fn dot(a: &[i32], b: &[i32]) -> i64
-    requires { ⌜ (length (now a) ≡ length (now b)) × (length (now a) ≤ 128) × Small (now a) (2 ^ 29) × Small (now b) (2 ^ 26) ⌝ }
-    ensures { λ r. ⌜ r ≡ sum (length (now (a .entry))) (λ j. at (now (a .entry)) j *ℤ at (now (b .entry)) j) ⌝ }
+// A product of numbers that are not negative: one multiplication without a sign.
+pub fn product(a: i32, b: i32) -> i64
+    requires { ⌜ (pos 0 ≤ℤ a) × (pos 0 ≤ℤ b) ⌝ }
+    ensures { λ r. ⌜ r ≡ a *ℤ b ⌝ }
 {
+    (a as u32 as u64 * b as u32 as u64) as i64
+}
+
+// Sum k of lifted inputs with the lifted kernel. The kernel is read down its columns, so that the sums of neighbours lie side by side.
+fn column(z: &[i32], rows: &[i32], k: usize) -> i64
+    requires { ⌜ (length (now rows) ≡ length (now z) * length (now z)) × (k < length (now z)) × (length (now z) ≤ 36) × Lifted (now z) (2 ^ 30) × Lifted (now rows) (2 ^ 27) ⌝ }
+    ensures { λ r. ⌜ r ≡ raised (now (z .entry)) (now (rows .entry)) k ⌝ }
+{
+    let m = z.len();
     let mut acc: i64 = 0;
-    for j in 0..a.len() {
-        acc += product(a[j], b[j]);
+    for j in 0..m {
+        acc += product(z[j], rows[j * m + k]);
     }
     acc
 }
 
-// A coefficient: the sum of the folded input z times a row, divided by 2^28.
-fn coefficient(z: &[i32], row: &[i32]) -> i32
-    requires { ⌜ (length (now z) ≡ length (now row)) × (length (now z) ≤ 128) × Small (now z) (2 ^ 24) × Small (now row) (2 ^ 26) ⌝ }
-    ensures { λ r. ⌜ r ≡ rnd (sum (length (now (z .entry))) (λ j. at (now (z .entry)) j *ℤ at (now (row .entry)) j)) (2 ^ 28) ⌝ }
+fn columns(z: &[i32], rows: &[i32], t: &mut [i64])
+    requires { ⌜ (length (now rows) ≡ length (now z) * length (now z)) × (length (now t) ≡ length (now z)) × (length (now z) ≤ 36) × Lifted (now z) (2 ^ 30) × Lifted (now rows) (2 ^ 27) ⌝ }
+    ensures { λ _. ⌜ now (t .exit) ≡ table (length (now (z .entry))) (raised (now (z .entry)) (now (rows .entry))) ⌝ }
 {
-    arithmetic::rnd_shift(dot(z, row), 28) as i32
+    for k in 0..t.len() {
+        t[k] = column(z, rows, k);
+    }
 }
 
-// The coefficients of the folded input z: a row of the kernel for each.
-pub fn spectrum(z: &[i32], rows: &[i32], out: &mut [i32])
-    requires { ⌜ (length (now rows) ≡ length (now z) * length (now z)) × (length (now out) ≡ length (now z)) × (length (now z) ≤ 128) × Small (now z) (2 ^ 24) × Small (now rows) (2 ^ 26) ⌝ }
-    ensures { λ _. ⌜ now (out .exit) ≡ table (length (now (z .entry))) (λ k. rnd (sum (length (now (z .entry))) (λ j. at (now (z .entry)) j *ℤ at (now (rows .entry)) (k * length (now (z .entry)) + j))) (2 ^ 28)) ⌝ }
+fn total(z: &[i32]) -> i64
+    requires { ⌜ (length (now z) ≤ 36) × Small (now z) (2 ^ 30) ⌝ }
+    ensures { λ r. ⌜ r ≡ sum (length (now (z .entry))) (at (now (z .entry))) ⌝ }
 {
-    let m = z.len();
-    for k in 0..m {
-        let at = k * m;
-        out[k] = coefficient(z, &rows[at..at + m]);
+    let mut acc: i64 = 0;
+    for j in 0..z.len() {
+        acc += z[j] as i64;
+    }
+    acc
+}
+
+// A sum without what the lifts added to it: `all` for the kernel's lift, and for an input's lift the kernel's numbers in it, `base`.
+fn lowered(sum: i64, all: i64, base: i32) -> i64
+    requires { ⌜ (natAbs sum ≤ 36 * 2 ^ 57) × (natAbs all ≤ 36 * 2 ^ 56) ⌝ }
+    ensures { λ r. ⌜ r ≡ sum -ℤ all -ℤ pos (2 ^ 29) *ℤ base ⌝ }
+{
+    sum - all - INPUT as i64 * base as i64
+}
+
+// Takes off what the lifts added to the sums t of the lifted inputs z. Entry k of `base` is the sum of the kernel's numbers in sum k.
+pub fn lower(z: &[i32], base: &[i32], t: &mut [i64])
+    requires { ⌜ (length (now base) ≡ length (now z)) × (length (now t) ≡ length (now z)) × (length (now z) ≤ 36) × Small (now z) (2 ^ 30) × Small (now t) (36 * 2 ^ 57) ⌝ }
+    ensures { λ _. ⌜ now (t .exit) ≡ table (length (now (z .entry))) (lowered (now (z .entry)) (now (base .entry)) (now (t .entry))) ⌝ }
+{
+    let all = KERNEL * total(z);
+    for k in 0..t.len() {
+        t[k] = lowered(t[k], all, base[k]);
+    }
+}
+
+// The sum over j of x(j) × F(k,j), for every k. The length's kernel is lent, and room for the lifted inputs.
+pub fn sums(n: usize, x: &[i32], rows: &[i32], base: &[i32], z: &mut [i32], t: &mut [i64])
+    requires { ⌜ (n / 2 ≤ 36) × (length (now x) ≡ n / 2) × Small (now x) (2 ^ 29) × (now rows ≡ liftList n) × (now base ≡ baseList n) × (length (now z) ≡ n / 2) × (length (now t) ≡ n / 2) ⌝ }
+    ensures { λ _. ⌜ (now (t .exit) ≡ table (n / 2) (folds n (now (x .entry)))) × Small (now (t .exit)) (2 ^ 62) ⌝ }
+{
+    lift(x, z);
+    columns(z, rows, t);
+    lower(z, base, t);
+}
+
+fn coefficient(sum: i64) -> i32
+    requires { ⌜ natAbs sum ≤ 2 ^ 58 ⌝ }
+    ensures { λ r. ⌜ r ≡ rnd sum (2 ^ 28) ⌝ }
+{
+    arithmetic::rnd_shift(sum, 28) as i32
+}
+
+// The coefficients from their sums, each divided by 2^28.
+pub fn spectrum(t: &[i64], out: &mut [i32])
+    requires { ⌜ (length (now out) ≡ length (now t)) × Small (now t) (2 ^ 58) ⌝ }
+    ensures { λ _. ⌜ now (out .exit) ≡ table (length (now (t .entry))) (λ k. rnd (at (now (t .entry)) k) (2 ^ 28)) ⌝ }
+{
+    for k in 0..t.len() {
+        out[k] = coefficient(t[k]);
     }
 }

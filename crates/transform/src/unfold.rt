@@ -1,4 +1,4 @@
-// The inverse: the M sums of a block's coefficients, and V from them. A hop has m samples, an even number, and the block 2 m.
+// The inverse: V from the M sums of a block's coefficients. A hop has m samples, an even number, and the block 2 m.
 ghost use mathlib.Core.Path.{_≡_};
 ghost use Prim.Native.Nat.{_+_, _*_, _/_, _^_, _≤_, _<_};
 ghost use lib.ListN.{length};
@@ -7,20 +7,6 @@ ghost use Rattle.arithmetic.specs.Rounding.{rnd};
 ghost use Rattle.arithmetic.specs.Sums.{sum};
 ghost use Rattle.arithmetic.specs.Lists.{at, table, Small};
 ghost use Rattle.transform.specs.InverseLaws.{valueAt};
-use crate::sums::dot;
-
-// The sums of the coefficients times each row of the kernel.
-pub fn sums(x: &[i32], rows: &[i32], t: &mut [i64])
-    requires { ⌜ (length (now rows) ≡ length (now x) * length (now x)) × (length (now t) ≡ length (now x)) × (length (now x) ≤ 128) × Small (now x) (2 ^ 29) × Small (now rows) (2 ^ 26) ⌝ }
-    ensures { λ _. ⌜ now (t .exit) ≡ table (length (now (x .entry))) (λ j. sum (length (now (x .entry))) (λ k. at (now (x .entry)) k *ℤ at (now (rows .entry)) (j * length (now (x .entry)) + k))) ⌝ }
-    ensures { λ _. ⌜ Small (now (t .exit)) (2 ^ 62) ⌝ }
-{
-    let m = x.len();
-    for j in 0..m {
-        let at = j * m;
-        t[j] = dot(x, &rows[at..at + m]);
-    }
-}
 
 // A number of the window times a sum, rounded.
 fn weighted(w: i32, s: i64) -> i64

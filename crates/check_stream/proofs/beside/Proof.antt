@@ -1,14 +1,16 @@
--- `beside` is safe and ends: the loop counts the blocks.
+-- `beside` is safe and ends: the loop counts the blocks, and the tail keeps its length.
+use mathlib.Core.Path.{_≡_}
 use Prim.Native.Nat.{_-_, _≤_}
+use lib.ListN.{length}
 use borrow.Author.Needs.{needs}
 use Rattle.check_stream.proofs.beside.Statement.{statement}
 use Rattle.check_stream.proofs.beside.Tie as tie
 
 abbrev Inv-loop : tie.InvT-loop
-Inv-loop n m s₀ t₀ b₀ s t b = b ≤ 16
+Inv-loop n m t₀ tail₀ b₀ t tail b = (b ≤ 16) × (36 ≡ length tail)
 
 abbrev μ-loop : tie.MeasureT-loop
-μ-loop n m s₀ t₀ b₀ s t b = 16 - b
+μ-loop n m t₀ tail₀ b₀ t tail b = 16 - b
 
 fresh-requires : tie.Need-fresh-requires Inv-loop μ-loop
 fresh-requires c κs = search needs
@@ -28,14 +30,20 @@ span-requires c κs = search needs
 noise-requires : tie.Need-noise-requires Inv-loop μ-loop
 noise-requires c κs = search needs
 
-refused-requires : tie.Need-refused-requires Inv-loop μ-loop
-refused-requires c κs = search needs
+slice-aggregate-refused-in-place : tie.Need-slice-aggregate-refused-in-place Inv-loop μ-loop
+slice-aggregate-refused-in-place c = search needs
+
+refused-in-place-requires : tie.Need-refused-in-place-requires Inv-loop μ-loop
+refused-in-place-requires c κs = search needs
+
+slice-aggregate-offer-in-place : tie.Need-slice-aggregate-offer-in-place Inv-loop μ-loop
+slice-aggregate-offer-in-place c = search needs
+
+offer-in-place-requires : tie.Need-offer-in-place-requires Inv-loop μ-loop
+offer-in-place-requires c κs = search needs
 
 offer-requires : tie.Need-offer-requires Inv-loop μ-loop
 offer-requires c κs = search needs
-
-offer-requires-2 : tie.Need-offer-requires-2 Inv-loop μ-loop
-offer-requires-2 c κs = search needs
 
 add-b : tie.Need-add-b Inv-loop μ-loop
 add-b c = search needs
@@ -61,9 +69,11 @@ beside-spec =
     add-noise
     span-requires
     noise-requires
-    refused-requires
+    slice-aggregate-refused-in-place
+    refused-in-place-requires
+    slice-aggregate-offer-in-place
+    offer-in-place-requires
     offer-requires
-    offer-requires-2
     add-b
     loop-less
     loop-again

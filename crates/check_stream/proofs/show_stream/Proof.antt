@@ -1,14 +1,14 @@
--- `show_stream` is safe and ends: the loop counts to the entries of a tail.
+-- `show_stream` is safe and ends: the loop counts to the length of the tail.
 use Prim.Native.Nat.{_-_, _≤_}
 use borrow.Author.Needs.{needs}
 use Rattle.check_stream.proofs.show_stream.Statement.{statement}
 use Rattle.check_stream.proofs.show_stream.Tie as tie
 
 abbrev Inv-loop : tie.InvT-loop
-Inv-loop n tail i₀ i = i ≤ 36
+Inv-loop n tail i₀ i-end i = i ≤ i-end
 
 abbrev μ-loop : tie.MeasureT-loop
-μ-loop n tail i₀ i = 36 - i
+μ-loop n tail i₀ i-end i = i-end - i
 
 slice-aggregate-word : tie.Need-slice-aggregate-word Inv-loop μ-loop
 slice-aggregate-word c = search needs
@@ -25,8 +25,8 @@ loop-holds c = search needs
 mul-field : tie.Need-mul-field Inv-loop μ-loop
 mul-field c = search needs
 
-element-copy-out-field : tie.Need-element-copy-out-field Inv-loop μ-loop
-element-copy-out-field c = search needs
+shared-slice-copy-out-field : tie.Need-shared-slice-copy-out-field Inv-loop μ-loop
+shared-slice-copy-out-field c = search needs
 
 field-requires : tie.Need-field-requires Inv-loop μ-loop
 field-requires c κs = search needs
@@ -57,7 +57,7 @@ show-stream-spec =
     count-requires
     loop-holds
     mul-field
-    element-copy-out-field
+    shared-slice-copy-out-field
     field-requires
     add-i
     loop-less

@@ -1,15 +1,14 @@
 -- `clamps` is safe and ends: the loop counts to the number of sums.
-use Rattle.arithmetic.specs.OrderLaws.{signs}
 use Prim.Native.Nat.{_-_, _≤_}
 use borrow.Author.Needs.{needs}
 use Rattle.check_values.proofs.clamps.Statement.{statement}
 use Rattle.check_values.proofs.clamps.Tie as tie
 
 abbrev Inv-loop : tie.InvT-loop
-Inv-loop i₀ t3 i = i ≤ 68
+Inv-loop i₀ i = i ≤ 68
 
 abbrev μ-loop : tie.MeasureT-loop
-μ-loop i₀ t3 i = 68 - i
+μ-loop i₀ i = 68 - i
 
 loop-holds : tie.Need-loop-holds Inv-loop μ-loop
 loop-holds c = search needs
@@ -20,17 +19,8 @@ mul-a c = search needs
 array-copy-out-a : tie.Need-array-copy-out-a Inv-loop μ-loop
 array-copy-out-a c = search needs
 
-slice-aggregate-line : tie.Need-slice-aggregate-line Inv-loop μ-loop
-slice-aggregate-line c = search needs
-
 clamp-requires : tie.Need-clamp-requires Inv-loop μ-loop
 clamp-requires c κs = search needs
-
-cast-line : tie.Need-cast-line Inv-loop μ-loop
-cast-line c = search signs
-
-line-requires : tie.Need-line-requires Inv-loop μ-loop
-line-requires c κs = search needs
 
 add-i : tie.Need-add-i Inv-loop μ-loop
 add-i c = search needs
@@ -53,10 +43,7 @@ clamps-spec =
     loop-holds
     mul-a
     array-copy-out-a
-    slice-aggregate-line
     clamp-requires
-    cast-line
-    line-requires
     add-i
     loop-less
     loop-again

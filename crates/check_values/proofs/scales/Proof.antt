@@ -1,5 +1,6 @@
 -- `scales` is safe and ends: the loop counts to the number of sums.
 use Prim.Native.Nat.{_-_, _≤_}
+use Rattle.arithmetic.specs.OrderLaws.{signs}
 use borrow.Author.Needs.{needs}
 use Rattle.check_values.proofs.scales.Statement.{statement}
 use Rattle.check_values.proofs.scales.Tie as tie
@@ -22,8 +23,11 @@ array-copy-out-a c = search needs
 slice-aggregate-line : tie.Need-slice-aggregate-line Inv-loop μ-loop
 slice-aggregate-line c = search needs
 
-rnd-scaled-requires : tie.Need-rnd-scaled-requires Inv-loop μ-loop
-rnd-scaled-requires c κs = search needs
+sample-requires : tie.Need-sample-requires Inv-loop μ-loop
+sample-requires c κs = search needs
+
+cast-line : tie.Need-cast-line Inv-loop μ-loop
+cast-line c = search signs
 
 line-requires : tie.Need-line-requires Inv-loop μ-loop
 line-requires c κs = search needs
@@ -50,7 +54,8 @@ scales-spec =
     mul-a
     array-copy-out-a
     slice-aggregate-line
-    rnd-scaled-requires
+    sample-requires
+    cast-line
     line-requires
     add-i
     loop-less

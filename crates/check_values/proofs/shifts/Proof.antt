@@ -5,10 +5,10 @@ use Rattle.check_values.proofs.shifts.Statement.{statement}
 use Rattle.check_values.proofs.shifts.Tie as tie
 
 abbrev Inv-loop : tie.InvT-loop
-Inv-loop k i₀ t4 i = i ≤ 68
+Inv-loop k i₀ i = i ≤ 68
 
 abbrev μ-loop : tie.MeasureT-loop
-μ-loop k i₀ t4 i = 68 - i
+μ-loop k i₀ i = 68 - i
 
 loop-holds : tie.Need-loop-holds Inv-loop μ-loop
 loop-holds c = search needs
@@ -19,14 +19,8 @@ mul-a c = search needs
 array-copy-out-a : tie.Need-array-copy-out-a Inv-loop μ-loop
 array-copy-out-a c = search needs
 
-slice-aggregate-line : tie.Need-slice-aggregate-line Inv-loop μ-loop
-slice-aggregate-line c = search needs
-
-rnd-shift-requires : tie.Need-rnd-shift-requires Inv-loop μ-loop
-rnd-shift-requires c κs = search needs
-
-line-requires : tie.Need-line-requires Inv-loop μ-loop
-line-requires c κs = search needs
+shift-requires : tie.Need-shift-requires Inv-loop μ-loop
+shift-requires c κs = search needs
 
 add-i : tie.Need-add-i Inv-loop μ-loop
 add-i c = search needs
@@ -49,9 +43,7 @@ shifts-spec =
     loop-holds
     mul-a
     array-copy-out-a
-    slice-aggregate-line
-    rnd-shift-requires
-    line-requires
+    shift-requires
     add-i
     loop-less
     loop-again

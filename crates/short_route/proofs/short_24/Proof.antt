@@ -8,7 +8,7 @@ use Rattle.cosine.specs.Kernels.{tabled, lengths}
 use Rattle.cosine.specs.TableLaws.{numbers}
 use Rattle.cosine.specs.CosineLaws.{tableC}
 use Rattle.transform.specs.Analysis.{y}
-use Rattle.transform.specs.RowLaws.{riseList, fallList, riseNumbers, fallNumbers, rise-numbers, fall-numbers}
+use Rattle.transform.specs.HalfLaws.{riseList, fallList, riseNumbers, fallNumbers, rise-numbers, fall-numbers}
 use Rattle.short_route.specs.ShortRoute.{offered}
 use borrow.Author.Needs.{needs}
 use Rattle.short_route.proofs.short_24.Statement.{statement}

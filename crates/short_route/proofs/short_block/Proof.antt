@@ -10,7 +10,7 @@ use Rattle.arithmetic.specs.Lists.{at}
 use Rattle.arithmetic.specs.ListLaws.{length-table}
 use Rattle.cosine.specs.LengthLaws.{length-of}
 use Rattle.transform.specs.Analysis.{y}
-use Rattle.transform.specs.RowLaws.{riseList, fallList}
+use Rattle.transform.specs.HalfLaws.{riseList, fallList}
 use Rattle.short_route.specs.ShortRoute.{offered}
 use Rattle.short_route.specs.OfferLaws.{offered-tabled}
 use Rattle.short_route.specs.ShortStepLaws.{middle-length, plus-length, minus-length, middle-small, plus-small, minus-small, short-step}

@@ -1,10 +1,11 @@
 -- `windowed_block` meets its contract: the window that is lent is the length's.
-use mathlib.Core.Path.{_≡_, sym, ap, _∙_}
+use mathlib.Core.Path.{sym, ap, _∙_}
 use native.Mathlib.Omega.{arith}
 use lib.ListN.{length}
 use Rattle.cosine.specs.LengthLaws.{length-of}
-use Rattle.transform.specs.RowLaws.{rise-length, fall-length, rise-small, fall-small}
+use Rattle.transform.specs.HalfLaws.{rise-length, fall-length, rise-small, fall-small}
 use Rattle.short_route.specs.OfferLaws.{offered-tabled}
+use Rattle.short_route.specs.WindowLaws.{rise-low, fall-low}
 use Rattle.short_route.specs.ShortStepLaws.{windowed-step}
 use borrow.Author.Needs.{needs}
 use Rattle.short_route.proofs.windowed_block.Statement.{statement}
@@ -22,6 +23,8 @@ windowed-block-requires c κs =
       q .4 ∙ sym (q .3),
       rw (q .1) (rise-small n),
       rw (q .2) (fall-small n),
+      rw (q .1) (rise-low n (offered-tabled n (q .0))),
+      rw (q .2) (fall-low n (offered-tabled n (q .0))),
     )
 
 same-length : tie.Need-same-length

@@ -20,22 +20,18 @@ module _ (c : tie.Start) where
   sum-is : toZ w64 (ofZ w64 (toZ w64 (ofZ w64 (c .args .tail)) +ℤ toZ w64 (ofZ w64 (c .args .v)))) ≡ c .args .tail +ℤ c .args .v
   sum-is = rw (toZ-ofZ (c .fits .tail), toZ-ofZ (c .fits .v)) (toZ-ofZ sum-fits)
 
-add-rnd-scaled : tie.Need-add-rnd-scaled
-add-rnd-scaled c = rw (toZ-ofZ (c .fits .tail), toZ-ofZ (c .fits .v)) (sum-fits c)
+add-sample : tie.Need-add-sample
+add-sample c = rw (toZ-ofZ (c .fits .tail), toZ-ofZ (c .fits .v)) (sum-fits c)
 
-rnd-scaled-requires : tie.Need-rnd-scaled-requires
-rnd-scaled-requires c κs = search needs
-
-clamp-requires : tie.Need-clamp-requires
-clamp-requires c κs = search needs
+sample-requires : tie.Need-sample-requires
+sample-requires c κs = search needs
 
 returns : tie.Need-returns
 returns c =
-    let s = c .before .before in
-    let r = c .before .rnd-scaled in
-    toZ-ofZ {w = w16} {z = c .clamp .result} (record { sfits = c .clamp .ok })
-    ∙ c .clamp .ensures
-    ∙ ap clamp (toZ-ofZ {w = w64} {z = r .result} (record { sfits = r .ok }) ∙ r .ensures ∙ ap (λ (z : ℤ). rnd z (s .args .n * 2 ^ 30)) (sum-is s))
+    let s = c .before in
+    toZ-ofZ {w = w16} {z = c .sample .result} (record { sfits = c .sample .ok })
+    ∙ c .sample .ensures
+    ∙ ap (λ (z : ℤ). clamp (rnd z (s .args .n * 2 ^ 30))) (sum-is s)
 
 pub sample-spec : {M : Type 1} → statement M
-sample-spec = tie.close (tie.spec add-rnd-scaled rnd-scaled-requires clamp-requires returns)
+sample-spec = tie.close (tie.spec add-sample sample-requires returns)

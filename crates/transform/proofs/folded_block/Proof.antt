@@ -1,10 +1,9 @@
 -- `folded_block` meets its contract: the window that is lent is the length's.
-use mathlib.Core.Path.{_≡_, sym, ap, _∙_}
-use Prim.Native.Nat.{ℕ, _*_, _/_}
+use mathlib.Core.Path.{sym, ap, _∙_}
 use native.Mathlib.Omega.{arith}
 use lib.ListN.{length}
 use Rattle.cosine.specs.LengthLaws.{length-of}
-use Rattle.transform.specs.RowLaws.{rise-length, fall-length, rise-small, fall-small}
+use Rattle.transform.specs.HalfLaws.{rise-length, fall-length, rise-small, fall-small}
 use Rattle.transform.specs.DirectLaws.{folded-step}
 use borrow.Author.Needs.{needs}
 use Rattle.transform.proofs.folded_block.Statement.{statement}

@@ -1,24 +1,33 @@
--- `inverse_24` meets its contract: the tables that it lends are the window's halves and the kernel's rows, by computing.
+-- `inverse_24` meets its contract: the tables that it lends are the window's halves and the lifted kernel, by computing.
 use mathlib.Core.Path.{refl}
+use native.Mathlib.Omega.{arith}
 use Rattle.arithmetic.specs.Lists.{table, every}
+use Rattle.arithmetic.specs.Sums.{sum}
 use Rattle.cosine.specs.Cosine.{reduced, toHalf, toTurn, continued}
 use Rattle.cosine.specs.Kernels.{tabled, lengths}
 use Rattle.cosine.specs.TableLaws.{numbers}
 use Rattle.cosine.specs.CosineLaws.{tableC}
-use Rattle.transform.specs.RowLaws.{riseNumbers, fallNumbers, rowNumbers, rise-numbers, fall-numbers, row-numbers}
+use Rattle.transform.specs.HalfLaws.{riseNumbers, fallNumbers, rise-numbers, fall-numbers}
+use Rattle.transform.specs.LiftLaws.{liftNumbers, baseNumbers, lift-numbers, base-numbers}
 use borrow.Author.Needs.{needs}
 use Rattle.transform.proofs.inverse_24.Statement.{statement}
 use Rattle.transform.proofs.inverse_24.Tie as tie
 
-slice-aggregate-sums-block : tie.Need-slice-aggregate-sums-block
-slice-aggregate-sums-block c = search needs
+slice-aggregate-sums : tie.Need-slice-aggregate-sums
+slice-aggregate-sums c = search needs
 
-slice-aggregate-sums-block-2 : tie.Need-slice-aggregate-sums-block-2
-slice-aggregate-sums-block-2 c = search needs
+slice-aggregate-sums-2 : tie.Need-slice-aggregate-sums-2
+slice-aggregate-sums-2 c = search needs
 
-sums-block-requires : tie.Need-sums-block-requires
-unfolding tabled every lengths riseNumbers fallNumbers rowNumbers table tableC continued toTurn toHalf reduced numbers
-sums-block-requires c κs = let q = c .before .before .pre in (tt, row-numbers 24, q .0, q .1, refl)
+slice-aggregate-sums-3 : tie.Need-slice-aggregate-sums-3
+slice-aggregate-sums-3 c = search needs
+
+slice-aggregate-sums-4 : tie.Need-slice-aggregate-sums-4
+slice-aggregate-sums-4 c = search needs
+
+sums-requires : tie.Need-sums-requires
+unfolding tabled every lengths liftNumbers baseNumbers sum table tableC continued toTurn toHalf reduced numbers
+sums-requires c κs = let q = c .before .before .before .before .pre in (omega arith, q .0, q .1, lift-numbers 24, base-numbers 24, refl, refl)
 
 slice-aggregate-inverse-block : tie.Need-slice-aggregate-inverse-block
 slice-aggregate-inverse-block c = search needs
@@ -30,10 +39,10 @@ slice-aggregate-inverse-block-3 : tie.Need-slice-aggregate-inverse-block-3
 slice-aggregate-inverse-block-3 c = search needs
 
 inverse-block-requires : tie.Need-inverse-block-requires
-unfolding tabled every lengths riseNumbers fallNumbers rowNumbers table tableC continued toTurn toHalf reduced numbers
+unfolding tabled every lengths riseNumbers fallNumbers table tableC continued toTurn toHalf reduced numbers
 inverse-block-requires c κs =
-    let f = c .before .before .before .before .before .sums-block in
-    (tt, rise-numbers 24, fall-numbers 24, f .ensures .0, f .ensures .1, c .before .before .before .before .before .before .before .before .pre .2)
+    let f = c .before .before .before .before .before .before in
+    (tt, rise-numbers 24, fall-numbers 24, f .sums .ensures .0, f .sums .ensures .1, c .before .before .before .before .before .before .before .before .before .before .before .pre .2)
 
 same-length : tie.Need-same-length
 same-length c = search needs
@@ -45,9 +54,11 @@ pub inverse-24-spec : {M : Type 1} → statement M
 inverse-24-spec =
     tie.close
     (tie.spec
-    slice-aggregate-sums-block
-    slice-aggregate-sums-block-2
-    sums-block-requires
+    slice-aggregate-sums
+    slice-aggregate-sums-2
+    slice-aggregate-sums-3
+    slice-aggregate-sums-4
+    sums-requires
     slice-aggregate-inverse-block
     slice-aggregate-inverse-block-2
     slice-aggregate-inverse-block-3

@@ -1,11 +1,11 @@
 -- `inverse_block` meets its contract: V from the sums of the coefficients.
 use mathlib.Core.Path.{_≡_, sym, ap, _∙_}
-use Prim.Native.Nat.{ℕ, _*_, _/_}
+use Prim.Native.Nat.{_/_}
 use native.Mathlib.Omega.{arith}
 use lib.ListN.{length}
 use Rattle.arithmetic.specs.ListLaws.{length-table}
 use Rattle.cosine.specs.LengthLaws.{length-of}
-use Rattle.transform.specs.RowLaws.{rise-length, fall-length, rise-small, fall-small}
+use Rattle.transform.specs.HalfLaws.{rise-length, fall-length, rise-small, fall-small}
 use Rattle.transform.specs.InverseLaws.{folds, value-step}
 use borrow.Author.Needs.{needs}
 use Rattle.transform.proofs.inverse_block.Statement.{statement}

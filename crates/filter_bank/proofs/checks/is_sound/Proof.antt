@@ -22,7 +22,9 @@ returns c =
     rw e
 
 tail-within-requires : tie.Need-tail-within-requires
-tail-within-requires c κs = omega (arith, length-of (c .before .before .args .n) (subst T (sym (good c)) tt) .most)
+tail-within-requires c κs =
+    let most = length-of (c .before .before .args .n) (subst T (sym (good c)) tt) .most in
+    (omega (arith, most), omega (arith, most, c .before .before .pre))
 
 returns-2 : tie.Need-returns-2
 returns-2 c = rw (good (c .before)) (c .tail-within .ensures)

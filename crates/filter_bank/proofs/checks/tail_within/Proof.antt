@@ -32,8 +32,8 @@ loop-holds c = (omega arith, all-none (test (c .args .tail .now) (c .args .m)))
 mul-is-within : tie.Need-mul-is-within Inv-loop μ-loop
 mul-is-within c = omega arith
 
-element-copy-out-is-within : tie.Need-element-copy-out-is-within Inv-loop μ-loop
-element-copy-out-is-within c = omega arith
+shared-slice-copy-out-is-within : tie.Need-shared-slice-copy-out-is-within Inv-loop μ-loop
+shared-slice-copy-out-is-within c = omega arith
 
 is-within-requires : tie.Need-is-within-requires Inv-loop μ-loop
 is-within-requires c κs = omega arith
@@ -79,7 +79,7 @@ tail-within-spec =
     mul-limit
     loop-holds
     mul-is-within
-    element-copy-out-is-within
+    shared-slice-copy-out-is-within
     is-within-requires
     returns
     add-i

@@ -6,7 +6,7 @@ use native.Mathlib.Omega.{arith}
 use lib.Dec.{lit<}
 use lib.IntN.{ℤ, natAbs}
 use mir.Syntax.{w32, w64}
-use mir.Val.{SFits}
+use mir.Val.{SFits, toZ, ofZ}
 use mir.Facts.{toZ-ofZ}
 use Rattle.arithmetic.specs.Rounding.{rnd}
 use Rattle.arithmetic.specs.OrderLaws.{sfits-abs}
@@ -16,7 +16,9 @@ use Rattle.short_route.proofs.block.rounded.Statement.{statement}
 use Rattle.short_route.proofs.block.rounded.Tie as tie
 
 rnd-shift-requires : tie.Need-rnd-shift-requires
-rnd-shift-requires c κs = search needs
+rnd-shift-requires c κs =
+    let h : natAbs (toZ w64 (ofZ w64 (c .args .s))) ≤ 2 ^ 62 = rw (toZ-ofZ (c .fits .s)) (omega (arith, c .pre .2)) in
+    search needs
 
 -- the two shifts that occur
 small : (s : ℤ) (k : ℕ) → 28 ≤ k → k ≤ 29 → natAbs s ≤ 2 ^ 58 → natAbs (rnd s (2 ^ k)) ≤ 2 ^ 30

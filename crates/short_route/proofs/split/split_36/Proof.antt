@@ -1,20 +1,22 @@
--- `split_36` meets its contract: the tables that it lends are the rotations and the rows of a third, by computing.
-use mathlib.Core.Path.{_≡_, sym, ap, subst, _∙_}
-use Prim.Native.Nat.{ℕ, _/_}
+-- `split_36` meets its contract: the tables that it lends are the lifted kernel of a third, by computing.
+use mathlib.Core.Path.{_≡_, sym, ap, ap₂, subst, _∙_}
+use mathlib.Core.List.{List}
+use Prim.Native.Nat.{ℕ, _*_, _/_, _^_, _≤_, _<_}
 use native.Mathlib.Omega.{arith}
 use lib.Dec.{T}
 use lib.ListN.{length}
-use lib.IntN.{ℤ}
+use lib.IntN.{ℤ, natAbs}
+use Rattle.arithmetic.specs.Sums.{sum}
 use Rattle.arithmetic.specs.Lists.{at, table, every}
-use Rattle.arithmetic.specs.ListLaws.{length-table}
 use Rattle.cosine.specs.Cosine.{reduced, toHalf, toTurn, continued}
-use Rattle.cosine.specs.Kernels.{tabled, lengths, s, eB, fB, eC, fC}
+use Rattle.cosine.specs.Kernels.{tabled, lengths}
 use Rattle.cosine.specs.TableLaws.{numbers}
 use Rattle.cosine.specs.CosineLaws.{tableC}
+use Rattle.transform.specs.LiftLaws.{Lifted, liftList, baseList, liftNumbers, baseNumbers, lift-numbers, base-numbers, lift-is}
 use Rattle.short_route.specs.ShortRoute.{offered, rB}
-use Rattle.short_route.specs.ShortFoldLaws.{middle}
-use Rattle.transform.specs.RowLaws.{rowList, rowNumbers, row-numbers}
-use Rattle.short_route.specs.RotationLaws.{rotation, oneNumbers, twoNumbers, eB-numbers, fB-numbers, eC-numbers, fC-numbers}
+use Rattle.short_route.specs.ShortFoldLaws.{middle, turnedC}
+use Rattle.short_route.specs.ShortSizeLaws.{middle-size, rB-size, turned-size}
+use Rattle.short_route.specs.PartLaws.{third-inputs}
 use borrow.Author.Needs.{needs}
 use Rattle.short_route.proofs.split.split_36.Statement.{statement}
 use Rattle.short_route.proofs.split.split_36.Tie as tie
@@ -39,11 +41,82 @@ module _ (c : tie.Start) where
   unfolding offered tabled every lengths
   taken = subst (λ (k : ℕ). T (offered k)) is tt
 
-slice-aggregate-fill-middle : tie.Need-slice-aggregate-fill-middle
-slice-aggregate-fill-middle c = search needs
+  u≤ : (n : ℕ) → n < N → natAbs (u n) ≤ 2 ^ 23
+  u≤ n p = c .pre .1 .small n p
 
-fill-middle-requires : tie.Need-fill-middle-requires
-fill-middle-requires c κs = let x = c .before in (third x, x .pre .1)
+-- the inputs of the parts, as `inputs_36` leaves them
+module _ (c : tie.After-inputs-36) where
+  abbrev x : tie.Start
+  x = c .before .before .before .before
+
+  abbrev za : List ℤ
+  za = c .inputs-36 .last .1 .0
+
+  abbrev zb : List ℤ
+  zb = c .inputs-36 .last .1 .1 .0
+
+  abbrev zg : List ℤ
+  zg = c .inputs-36 .last .1 .1 .1 .0
+
+  a-part : (length za ≡ N x / 6) × Lifted za (2 ^ 30)
+  a-part = third-inputs (N x) (taken x) (middle (N x) (u x)) (λ n p. omega (arith, middle-size (N x) (u x) (u≤ x) n p)) za (c .inputs-36 .ensures .middle-is)
+
+  b-part : (length zb ≡ N x / 6) × Lifted zb (2 ^ 30)
+  b-part = third-inputs (N x) (taken x) (rB (N x) (u x)) (λ n p. rB-size (N x) (u x) (u≤ x) n p) zb (c .inputs-36 .ensures .rB-is)
+
+  g-part : (length zg ≡ N x / 6) × Lifted zg (2 ^ 30)
+  g-part = third-inputs (N x) (taken x) (turnedC (N x) (u x)) (λ n p. turned-size (N x) (u x) (u≤ x) n p) zg (c .inputs-36 .ensures .rC-is)
+
+  long : 6 ≡ length za
+  long = sixth x ∙ sym (a-part .0)
+
+slice-aggregate-inputs-36 : tie.Need-slice-aggregate-inputs-36
+slice-aggregate-inputs-36 c = search needs
+
+slice-aggregate-inputs-36-2 : tie.Need-slice-aggregate-inputs-36-2
+slice-aggregate-inputs-36-2 c = search needs
+
+slice-aggregate-inputs-36-3 : tie.Need-slice-aggregate-inputs-36-3
+slice-aggregate-inputs-36-3 c = search needs
+
+inputs-36-requires : tie.Need-inputs-36-requires
+inputs-36-requires c κs = search needs
+
+slice-aggregate-three : tie.Need-slice-aggregate-three
+slice-aggregate-three c = search needs
+
+slice-aggregate-three-2 : tie.Need-slice-aggregate-three-2
+slice-aggregate-three-2 c = search needs
+
+slice-aggregate-three-3 : tie.Need-slice-aggregate-three-3
+slice-aggregate-three-3 c = search needs
+
+slice-aggregate-three-4 : tie.Need-slice-aggregate-three-4
+slice-aggregate-three-4 c = search needs
+
+slice-aggregate-three-5 : tie.Need-slice-aggregate-three-5
+slice-aggregate-three-5 c = search needs
+
+slice-aggregate-three-6 : tie.Need-slice-aggregate-three-6
+slice-aggregate-three-6 c = search needs
+
+three-requires : tie.Need-three-requires
+unfolding liftNumbers baseNumbers sum table tableC continued toTurn toHalf reduced numbers
+three-requires c κs =
+    let f = c .before .before .before .before .before .before .before .before .before .before in
+    let q = x f .pre in (
+      ap₂ (λ (a b : ℕ). a * b) (long f) (long f),
+      b-part f .0 ∙ sym (a-part f .0),
+      g-part f .0 ∙ sym (a-part f .0),
+      omega (arith, long f),
+      a-part f .1,
+      b-part f .1,
+      g-part f .1,
+      subst (λ (l : List ℤ). Lifted l (2 ^ 27)) (sym (lift-numbers 12)) (lift-is 12),
+      q .2 ∙ long f,
+      long f,
+      long f,
+    )
 
 slice-aggregate-a-sums : tie.Need-slice-aggregate-a-sums
 slice-aggregate-a-sums c = search needs
@@ -55,38 +128,11 @@ slice-aggregate-a-sums-3 : tie.Need-slice-aggregate-a-sums-3
 slice-aggregate-a-sums-3 c = search needs
 
 a-sums-requires : tie.Need-a-sums-requires
-unfolding rowNumbers table tableC continued toTurn toHalf reduced numbers
+unfolding liftNumbers baseNumbers sum table tableC continued toTurn toHalf reduced numbers
 a-sums-requires c κs =
-    let f = c .before .before .before .before .before in
-    let x = f .before .before in
-    (taken x, x .pre .1, f .fill-middle .ensures, row-numbers 12 ∙ ap rowList (third x), sixth x, x .pre .2 ∙ sixth x)
-
--- the room that is lent again has kept its length
-module _ (c : tie.After-a-sums) where
-  abbrev over-middle : tie.After-fill-middle
-  over-middle = c .before .before .before .before .before .before
-
-  abbrev x-a : tie.Start
-  x-a = over-middle .before .before
-
-  z-long : length (c .a-sums .last .1 .1 .1 .0) ≡ N x-a / 6
-  z-long = c .a-sums .kept .1 .1 .1 .0 ∙ sixth x-a
-
-slice-aggregate-fill-rb : tie.Need-slice-aggregate-fill-rb
-slice-aggregate-fill-rb c = search needs
-
-slice-aggregate-fill-rb-2 : tie.Need-slice-aggregate-fill-rb-2
-slice-aggregate-fill-rb-2 c = search needs
-
-slice-aggregate-fill-rb-3 : tie.Need-slice-aggregate-fill-rb-3
-slice-aggregate-fill-rb-3 c = search needs
-
-fill-rb-requires : tie.Need-fill-rb-requires
-unfolding oneNumbers twoNumbers table tableC s continued toTurn toHalf reduced numbers
-fill-rb-requires c κs =
-    let f = c .before .before .before .before .before in
-    let x = x-a f in
-    (ap length (over-middle f .fill-middle .ensures) ∙ length-table (middle (N x) (u x)) (N x / 3), x .pre .1, eB-numbers 36 ∙ ap (rotation eB) (is x), fB-numbers 36 ∙ ap (rotation fB) (is x))
+    let t = c .before .before .before .before .before .before .before in
+    let f = t .before .before .before .before .before .before .before .before .before .before .before in
+    (taken (x f), x f .pre .1, f .inputs-36 .ensures .middle-is, lift-numbers 12 ∙ ap liftList (third (x f)), base-numbers 12 ∙ ap baseList (third (x f)), t .three .ensures .0)
 
 slice-aggregate-b-sums : tie.Need-slice-aggregate-b-sums
 slice-aggregate-b-sums c = search needs
@@ -101,38 +147,11 @@ slice-aggregate-b-sums-4 : tie.Need-slice-aggregate-b-sums-4
 slice-aggregate-b-sums-4 c = search needs
 
 b-sums-requires : tie.Need-b-sums-requires
-unfolding rowNumbers table tableC continued toTurn toHalf reduced numbers
+unfolding liftNumbers baseNumbers sum table tableC continued toTurn toHalf reduced numbers
 b-sums-requires c κs =
-    let f = c .before .before .before .before .before in
-    let o = f .before .before .before .before .before .before in
-    let x = x-a o in
-    (taken x, x .pre .1, f .fill-rb .ensures, row-numbers 12 ∙ ap rowList (third x), z-long o, sixth x)
-
-module _ (c : tie.After-b-sums) where
-  abbrev over-rb : tie.After-fill-rb
-  over-rb = c .before .before .before .before .before .before
-
-  abbrev over-a : tie.After-a-sums
-  over-a = over-rb .before .before .before .before .before .before
-
-  z-long-2 : length (c .b-sums .last .1 .1 .1 .0) ≡ N (x-a over-a) / 6
-  z-long-2 = c .b-sums .kept .1 .1 .1 .0 ∙ z-long over-a
-
-slice-aggregate-fill-rc : tie.Need-slice-aggregate-fill-rc
-slice-aggregate-fill-rc c = search needs
-
-slice-aggregate-fill-rc-2 : tie.Need-slice-aggregate-fill-rc-2
-slice-aggregate-fill-rc-2 c = search needs
-
-slice-aggregate-fill-rc-3 : tie.Need-slice-aggregate-fill-rc-3
-slice-aggregate-fill-rc-3 c = search needs
-
-fill-rc-requires : tie.Need-fill-rc-requires
-unfolding oneNumbers twoNumbers table tableC s continued toTurn toHalf reduced numbers
-fill-rc-requires c κs =
-    let f = c .before .before .before .before .before in
-    let x = x-a (over-a f) in
-    (ap length (over-rb f .fill-rb .ensures) ∙ length-table (rB (N x) (u x)) (N x / 3), x .pre .1, eC-numbers 36 ∙ ap (rotation eC) (is x), fC-numbers 36 ∙ ap (rotation fC) (is x))
+    let t = c .before .before .before .before .before .before .before .before .before .before .before .before .before in
+    let f = t .before .before .before .before .before .before .before .before .before .before .before in
+    (taken (x f), x f .pre .1, f .inputs-36 .ensures .rB-is, lift-numbers 12 ∙ ap liftList (third (x f)), base-numbers 12 ∙ ap baseList (third (x f)), t .three .ensures .1)
 
 slice-aggregate-g-sums : tie.Need-slice-aggregate-g-sums
 slice-aggregate-g-sums c = search needs
@@ -147,16 +166,11 @@ slice-aggregate-g-sums-4 : tie.Need-slice-aggregate-g-sums-4
 slice-aggregate-g-sums-4 c = search needs
 
 g-sums-requires : tie.Need-g-sums-requires
-unfolding rowNumbers table tableC continued toTurn toHalf reduced numbers
+unfolding liftNumbers baseNumbers sum table tableC continued toTurn toHalf reduced numbers
 g-sums-requires c κs =
-    let f = c .before .before .before .before .before in
-    let o = f .before .before .before .before .before .before in
-    let x = x-a (over-a o) in
-    (taken x, x .pre .1, f .fill-rc .ensures, row-numbers 12 ∙ ap rowList (third x), z-long-2 o, sixth x)
-
-module _ (c : tie.After-g-sums) where
-  abbrev over-b : tie.After-b-sums
-  over-b = c .before .before .before .before .before .before .before .before .before .before .before .before
+    let t = c .before .before .before .before .before .before .before .before .before .before .before .before .before .before .before .before .before .before .before in
+    let f = t .before .before .before .before .before .before .before .before .before .before .before in
+    (taken (x f), x f .pre .1, f .inputs-36 .ensures .rC-is, lift-numbers 12 ∙ ap liftList (third (x f)), base-numbers 12 ∙ ap baseList (third (x f)), t .three .ensures .2)
 
 slice-aggregate-outer-sums : tie.Need-slice-aggregate-outer-sums
 slice-aggregate-outer-sums c = search needs
@@ -166,12 +180,14 @@ slice-aggregate-outer-sums-2 c = search needs
 
 outer-sums-requires : tie.Need-outer-sums-requires
 outer-sums-requires c κs =
-    let f = c .before .before .before .before .before .before in
-    let x = x-a (over-a (over-b f)) in
-    (taken x, x .pre .1, over-b f .b-sums .ensures, f .g-sums .ensures, x .pre .3 ∙ sixth x, x .pre .4 ∙ sixth x)
+    let g = c .before .before .before .before .before in
+    let b = g .before .before .before .before .before .before in
+    let t = b .before .before .before .before .before .before .before .before .before .before .before .before .before .before in
+    let y = x (t .before .before .before .before .before .before .before .before .before .before .before) in
+    (taken y, y .pre .1, b .b-sums .ensures, g .g-sums .ensures, y .pre .3 ∙ sixth y, y .pre .4 ∙ sixth y)
 
 same-length : tie.Need-same-length
-same-length c = over-a (over-b (c .before .before .before .before .before .before .before .before .before)) .a-sums .kept .1 .1 .1 .1 .0
+same-length c = let a = c .before .before .before .before .before .before .before .before .before .before .before .before .before .before .before .before .before .before .before .before in a .a-sums .kept .1 .1 .1 .1 .0 ∙ a .before .before .before .before .before .before .before .before .three .kept .1 .1 .1 .1 .0
 
 same-length-2 : tie.Need-same-length-2
 same-length-2 c = search needs
@@ -180,34 +196,32 @@ same-length-3 : tie.Need-same-length-3
 same-length-3 c = search needs
 
 returns : tie.Need-returns
-returns c =
-    let o = c .before .before in
-    let f = o .before .before .before .before .before .before .before in
-    record { middle-is = over-a (over-b f) .a-sums .ensures; plus-is = o .outer-sums .ensures .0; minus-is = o .outer-sums .ensures .1 }
+returns c = search needs
 
 pub split-36-spec : {M : Type 1} → statement M
 split-36-spec =
     tie.close
     (tie.spec
-    slice-aggregate-fill-middle
-    fill-middle-requires
+    slice-aggregate-inputs-36
+    slice-aggregate-inputs-36-2
+    slice-aggregate-inputs-36-3
+    inputs-36-requires
+    slice-aggregate-three
+    slice-aggregate-three-2
+    slice-aggregate-three-3
+    slice-aggregate-three-4
+    slice-aggregate-three-5
+    slice-aggregate-three-6
+    three-requires
     slice-aggregate-a-sums
     slice-aggregate-a-sums-2
     slice-aggregate-a-sums-3
     a-sums-requires
-    slice-aggregate-fill-rb
-    slice-aggregate-fill-rb-2
-    slice-aggregate-fill-rb-3
-    fill-rb-requires
     slice-aggregate-b-sums
     slice-aggregate-b-sums-2
     slice-aggregate-b-sums-3
     slice-aggregate-b-sums-4
     b-sums-requires
-    slice-aggregate-fill-rc
-    slice-aggregate-fill-rc-2
-    slice-aggregate-fill-rc-3
-    fill-rc-requires
     slice-aggregate-g-sums
     slice-aggregate-g-sums-2
     slice-aggregate-g-sums-3

@@ -2,14 +2,14 @@
 use mathlib.Core.Path.{_≡_, ap, _∙_}
 use Prim.Native.Nat.{_^_, _≤_}
 use native.Mathlib.Omega.{arith}
-use lib.IntN.{ℤ, natAbs}
+use lib.IntN.{ℤ, natAbs, _*ℤ_}
 use lib.Signed.{natAbs-le}
 use mir.Syntax.{w32, w64}
-use mir.Val.{SFits}
+use mir.Val.{SFits, toZ, ofZ}
 use mir.Facts.{toZ-ofZ}
 use Rattle.arithmetic.specs.Rounding.{rnd}
 use Rattle.arithmetic.specs.Lists.{at}
-use Rattle.arithmetic.specs.OrderLaws.{sfits-abs}
+use Rattle.arithmetic.specs.OrderLaws.{sfits-abs, abs-mul-le}
 use Rattle.transform.specs.HopLaws.{windowed, windowed-size}
 use borrow.Author.Needs.{needs}
 use Rattle.transform.proofs.fold.windowed.Statement.{statement}
@@ -30,16 +30,25 @@ shared-slice-copy-out-weighted-2 c = search needs
 weighted-requires : tie.Need-weighted-requires
 weighted-requires c κs = search needs
 
+-- the product, as the machine has it: below 2^41
+product-is : (c : tie.After-weighted) → let s = c .before .before .before in
+    toZ w64 (ofZ w64 (c .weighted .result)) ≡ at (s .args .half .now) (s .args .i) *ℤ at (s .args .x .now) (s .args .n)
+product-is c = toZ-ofZ {w = w64} {z = c .weighted .result} (record { sfits = c .weighted .ok }) ∙ c .weighted .ensures .0 ∙ search needs
+
 rnd-shift-requires : tie.Need-rnd-shift-requires
-rnd-shift-requires c κs = search needs
+rnd-shift-requires c κs =
+    let s = c .before .before .before in
+    let w = at (s .args .half .now) (s .args .i) in
+    let x = at (s .args .x .now) (s .args .n) in
+    let p = abs-mul-le w x {A = 2 ^ 26} {B = 2 ^ 15} (s .pre .0 .small (s .args .i) (s .pre .1)) (natAbs-le x (c .before .weighted-arg2 .given)) in
+    (omega arith, omega arith, rw (product-is c) (omega (arith, p)))
 
 -- what the rounding gives is the windowed sample, and small
 is : (c : tie.After-rnd-shift) → let s = c .before .before .before .before in
     c .rnd-shift .result ≡ windowed (s .args .half .now) (s .args .i) (s .args .x .now) (s .args .n)
 unfolding windowed
 is c =
-    let w = c .before .weighted in
-    c .rnd-shift .ensures ∙ ap (λ (z : ℤ). rnd z (2 ^ 18)) (toZ-ofZ {w = w64} (record { sfits = w .ok }) ∙ w .ensures .0 ∙ search needs)
+    c .rnd-shift .ensures ∙ ap (λ (z : ℤ). rnd z (2 ^ 18)) (product-is (c .before))
 
 small : (c : tie.After-rnd-shift) → natAbs (c .rnd-shift .result) ≤ 2 ^ 23
 small c =

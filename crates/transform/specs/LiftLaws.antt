@@ -1,0 +1,179 @@
+-- Laws of lifted numbers: a power of two is added to a sum's inputs and to the kernel's numbers, so that none is negative, and what that adds to
+-- the sum is taken off again.
+use mathlib.Core.Path.{_≡_, sym, ap, _∙_}
+use mathlib.Core.List.{List}
+use Prim.Native.Nat.{ℕ, zero, suc, _+_, _*_, _/_, _%_, _^_, _≤_, _<_}
+use native.Mathlib.Nat.{mul-add-div-right, div-eq-of-lt, mul-add-mod-self-right, mod-eq-of-lt, mul-le-mul-right}
+use native.Mathlib.Omega.{arith}
+use lib.ListN.{length}
+use lib.IntN.{ℤ, pos, natAbs, _+ℤ_, _-ℤ_, _*ℤ_}
+use lib.Signed.{_≤ℤ_}
+use Rattle.arithmetic.specs.Sums.{sum}
+use Rattle.arithmetic.specs.Lists.{at, Small, table}
+use Rattle.arithmetic.specs.SumLaws.{sum-ext, sum-suc, sum-zero, sum-abs}
+use Rattle.arithmetic.specs.IntegerLaws.{ints, zarith}
+use Rattle.arithmetic.specs.OrderLaws.{bounds, abs-mul-le}
+use Rattle.arithmetic.specs.RingLaws.{ring, lins}
+use Rattle.arithmetic.specs.ListLaws.{length-table, getD-table, table-ext}
+use Rattle.cosine.specs.Kernels.{d, F}
+use Rattle.cosine.specs.CosineLaws.{tableC, C-table}
+use Rattle.cosine.specs.KernelLaws.{F-size}
+use Rattle.transform.specs.InverseLaws.{folds}
+
+-- no entry is negative or above B
+pub record Lifted (xs : List ℤ) (B : ℕ) : Type 0 where
+  pub sign : (i : ℕ) → i < length xs → pos 0 ≤ℤ at xs i
+  pub size : (i : ℕ) → i < length xs → natAbs (at xs i) ≤ B
+
+-- a number between -B and B, once B is added
+pub sign-up : (z : ℤ) (B : ℕ) → natAbs z ≤ B → pos 0 ≤ℤ (z +ℤ pos B)
+sign-up z B h = let k = simp bounds at h in simp ints (omega zarith)
+
+pub size-up : (z : ℤ) (B : ℕ) → natAbs z ≤ B → natAbs (z +ℤ pos B) ≤ 2 * B
+size-up z B h = let k = simp bounds at h in simp bounds (omega zarith)
+
+-- a sum's inputs, lifted by 2^29
+unfoldable pub lifted : List ℤ → List ℤ
+lifted xs = table (length xs) (λ j. at xs j +ℤ pos (2 ^ 29))
+
+pub lifted-length : (xs : List ℤ) → length (lifted xs) ≡ length xs
+unfolding lifted
+lifted-length xs = length-table (λ j. at xs j +ℤ pos (2 ^ 29)) (length xs)
+
+pub lifted-at : (xs : List ℤ) (j : ℕ) → j < length xs → at (lifted xs) j ≡ at xs j +ℤ pos (2 ^ 29)
+unfolding lifted
+lifted-at xs j p = getD-table (λ j. at xs j +ℤ pos (2 ^ 29)) (pos 0) (length xs) j p
+
+pub lifted-is : (xs : List ℤ) → Small xs (2 ^ 29) → Lifted (lifted xs) (2 ^ 30)
+lifted-is xs s =
+    record {
+      sign = λ i p. let q = rw (lifted-length xs) at p in rw (lifted-at xs i q) (sign-up (at xs i) (2 ^ 29) (s .small i q));
+      size = λ i p. let q = rw (lifted-length xs) at p in rw (lifted-at xs i q) (size-up (at xs i) (2 ^ 29) (s .small i q));
+    }
+
+-- the folded kernel, lifted by 2^26: entry j M + k is F(k,j) + 2^26, and the sum over j of F(k,j)
+unfoldable pub liftList : ℕ → List ℤ
+liftList N = table (N / 2 * (N / 2)) (λ i. F N (i % (N / 2)) (i / (N / 2)) +ℤ pos (2 ^ 26))
+
+unfoldable pub baseList : ℕ → List ℤ
+baseList N = table (N / 2) (λ k. sum (N / 2) (λ j. F N k j))
+
+-- the same read from the table of 73 numbers, which computes
+unfoldable pub liftNumbers : ℕ → List ℤ
+liftNumbers N = table (N / 2 * (N / 2)) (λ i. tableC (pos (d N * (2 * (i % (N / 2)) + 1) * (2 * (i / (N / 2)) + 1))) +ℤ pos (2 ^ 26))
+
+unfoldable pub baseNumbers : ℕ → List ℤ
+baseNumbers N = table (N / 2) (λ k. sum (N / 2) (λ j. tableC (pos (d N * (2 * k + 1) * (2 * j + 1)))))
+
+pub lift-numbers : (N : ℕ) → liftNumbers N ≡ liftList N
+unfolding liftNumbers liftList F
+lift-numbers N =
+    table-ext (N / 2 * (N / 2)) (λ i. tableC (pos (d N * (2 * (i % (N / 2)) + 1) * (2 * (i / (N / 2)) + 1))) +ℤ pos (2 ^ 26)) (λ i. F N (i % (N / 2)) (i / (N / 2)) +ℤ pos (2 ^ 26))
+    (λ i p. ap (λ (z : ℤ). z +ℤ pos (2 ^ 26)) (sym (C-table (pos (d N * (2 * (i % (N / 2)) + 1) * (2 * (i / (N / 2)) + 1))))))
+
+pub base-numbers : (N : ℕ) → baseNumbers N ≡ baseList N
+unfolding baseNumbers baseList F
+base-numbers N =
+    table-ext (N / 2) (λ k. sum (N / 2) (λ j. tableC (pos (d N * (2 * k + 1) * (2 * j + 1))))) (λ k. sum (N / 2) (λ j. F N k j))
+    (λ k p. sum-ext (N / 2) (λ j. tableC (pos (d N * (2 * k + 1) * (2 * j + 1)))) (λ j. F N k j) (λ j q. sym (C-table (pos (d N * (2 * k + 1) * (2 * j + 1))))))
+
+pub lift-length : (N : ℕ) → length (liftList N) ≡ N / 2 * (N / 2)
+unfolding liftList
+lift-length N = length-table (λ i. F N (i % (N / 2)) (i / (N / 2)) +ℤ pos (2 ^ 26)) (N / 2 * (N / 2))
+
+pub base-length : (N : ℕ) → length (baseList N) ≡ N / 2
+unfolding baseList
+base-length N = length-table (λ k. sum (N / 2) (λ j. F N k j)) (N / 2)
+
+pub place : (m j k : ℕ) → j < m → k < m → j * m + k < m * m
+place m j k p q = omega (arith, mul-le-mul-right m p)
+
+pub lift-at : (N j k : ℕ) → j < N / 2 → k < N / 2 → at (liftList N) (j * (N / 2) + k) ≡ F N k j +ℤ pos (2 ^ 26)
+unfolding liftList
+lift-at N j k p q =
+    let m = N / 2 in
+    let quot : (j * m + k) / m ≡ j = mul-add-div-right {m = m} (omega arith) j k ∙ omega (arith, div-eq-of-lt q) in
+    let rem : (j * m + k) % m ≡ k = mul-add-mod-self-right j m k ∙ mod-eq-of-lt q in
+    getD-table (λ i. F N (i % m) (i / m) +ℤ pos (2 ^ 26)) (pos 0) (m * m) (j * m + k) (place m j k p q) ∙ rw (quot, rem)
+
+pub base-at : (N k : ℕ) → k < N / 2 → at (baseList N) k ≡ sum (N / 2) (λ j. F N k j)
+unfolding baseList
+base-at N k p = getD-table (λ k. sum (N / 2) (λ j. F N k j)) (pos 0) (N / 2) k p
+
+pub lift-is : (N : ℕ) → Lifted (liftList N) (2 ^ 27)
+unfolding liftList
+lift-is N =
+    let e : (i : ℕ) → i < length (liftList N) → at (liftList N) i ≡ F N (i % (N / 2)) (i / (N / 2)) +ℤ pos (2 ^ 26) =
+    λ i p. getD-table (λ i. F N (i % (N / 2)) (i / (N / 2)) +ℤ pos (2 ^ 26)) (pos 0) (N / 2 * (N / 2)) i (omega (arith, lift-length N))
+    in
+    record {
+      sign = λ i p. rw (e i p) (sign-up (F N (i % (N / 2)) (i / (N / 2))) (2 ^ 26) (F-size N (i % (N / 2)) (i / (N / 2))));
+      size = λ i p. rw (e i p) (size-up (F N (i % (N / 2)) (i / (N / 2))) (2 ^ 26) (F-size N (i % (N / 2)) (i / (N / 2))));
+    }
+
+-- a sum with the kernel is as small as its inputs let it be
+pub folds-abs : (N : ℕ) (X : List ℤ) (B : ℕ) → length X ≡ N / 2 → Small X B → (k : ℕ) → natAbs (folds N X k) ≤ N / 2 * (B * 2 ^ 26)
+unfolding folds
+folds-abs N X B l s k = sum-abs (N / 2) (λ j. at X j *ℤ F N k j) (B * 2 ^ 26) (λ j p. abs-mul-le (at X j) (F N k j) (s .small j (rw l p)) (F-size N k j))
+
+-- ---- what the lifts add to a sum
+step-is : (s t b x f L P : ℤ) →
+    s +ℤ (x +ℤ L) *ℤ (f +ℤ P) -ℤ P *ℤ (t +ℤ (x +ℤ L)) -ℤ L *ℤ (b +ℤ f) ≡ s -ℤ P *ℤ t -ℤ L *ℤ b +ℤ x *ℤ f
+step-is s t b x f L P = simp ring (simp lins (omega zarith))
+
+pub sum-lifted : (m : ℕ) (L P : ℤ) (x f : ℕ → ℤ) →
+    sum m (λ j. (x j +ℤ L) *ℤ (f j +ℤ P)) -ℤ P *ℤ sum m (λ j. x j +ℤ L) -ℤ L *ℤ sum m f ≡ sum m (λ j. x j *ℤ f j)
+sum-lifted zero L P x f = rw (sum-zero (λ j. (x j +ℤ L) *ℤ (f j +ℤ P)), sum-zero (λ j. x j +ℤ L), sum-zero f, sum-zero (λ j. x j *ℤ f j)) (simp ints (omega zarith))
+sum-lifted (suc m) L P x f =
+    rw (sum-suc m (λ j. (x j +ℤ L) *ℤ (f j +ℤ P)), sum-suc m (λ j. x j +ℤ L), sum-suc m f, sum-suc m (λ j. x j *ℤ f j))
+    (step-is (sum m (λ j. (x j +ℤ L) *ℤ (f j +ℤ P))) (sum m (λ j. x j +ℤ L)) (sum m f) (x m) (f m) L P ∙ ap (λ (z : ℤ). z +ℤ x m *ℤ f m) (sum-lifted m L P x f))
+
+-- the sums of lifted inputs with the columns of the lifted kernel
+unfoldable pub raised : List ℤ → List ℤ → ℕ → ℤ
+raised z rows k = sum (length z) (λ j. at z j *ℤ at rows (j * length z + k))
+
+-- 36 products of 2^57 at most
+pub raised-small : (z rows : List ℤ) → length rows ≡ length z * length z → length z ≤ 36 → Lifted z (2 ^ 30) → Lifted rows (2 ^ 27) → Small (table (length z) (raised z rows)) (36 * 2 ^ 57)
+unfolding raised
+raised-small z rows l most u v =
+    let m = length z in
+    record {
+      small = λ k p.
+          let q : k < m = omega (arith, length-table (raised z rows) m) in
+          rw (getD-table (raised z rows) (pos 0) m k q) (
+          omega (
+            arith,
+            sum-abs m (λ j. at z j *ℤ at rows (j * m + k)) (2 ^ 30 * 2 ^ 27)
+                (λ j h. abs-mul-le (at z j) (at rows (j * m + k)) (u .size j h) (v .size (j * m + k) (omega (arith, place m j k h q, l)))),
+            most,
+          )
+          );
+    }
+
+-- what is left once the lifts are taken off
+unfoldable pub lowered : List ℤ → List ℤ → List ℤ → ℕ → ℤ
+lowered z base t k = at t k -ℤ pos (2 ^ 26) *ℤ sum (length z) (at z) -ℤ pos (2 ^ 29) *ℤ at base k
+
+pub lowered-is : (N : ℕ) (x z rows base t s : List ℤ) → length x ≡ N / 2 → z ≡ lifted x → rows ≡ liftList N → base ≡ baseList N →
+    t ≡ table (length z) (raised z rows) → s ≡ table (length z) (lowered z base t) → s ≡ table (N / 2) (folds N x)
+unfolding folds raised lowered
+lowered-is N x z rows base t s l e r b u h =
+    let m = N / 2 in
+    let long : length z ≡ m = ap length e ∙ lifted-length x ∙ l in
+    let input : (j : ℕ) → j < m → at z j ≡ at x j +ℤ pos (2 ^ 29) = λ j p. ap (λ (w : List ℤ). at w j) e ∙ lifted-at x j (rw l p) in
+    let each : (k : ℕ) → k < m → at t k -ℤ pos (2 ^ 26) *ℤ sum m (at z) -ℤ pos (2 ^ 29) *ℤ at base k ≡ sum m (λ j. at x j *ℤ F N k j) =
+    λ k p.
+    let first : at t k ≡ sum m (λ j. (at x j +ℤ pos (2 ^ 29)) *ℤ (F N k j +ℤ pos (2 ^ 26))) =
+    ap (λ (w : List ℤ). at w k) u
+    ∙ getD-table (raised z rows) (pos 0) (length z) k (rw long p)
+    ∙ ap (λ (n : ℕ). sum n (λ j. at z j *ℤ at rows (j * n + k))) long
+    ∙ sum-ext m (λ j. at z j *ℤ at rows (j * m + k)) (λ j. (at x j +ℤ pos (2 ^ 29)) *ℤ (F N k j +ℤ pos (2 ^ 26)))
+    (λ j q. rw (input j q, r, lift-at N j k q p))
+    in
+    let second : sum m (at z) ≡ sum m (λ j. at x j +ℤ pos (2 ^ 29)) = sum-ext m (at z) (λ j. at x j +ℤ pos (2 ^ 29)) input in
+    let third : at base k ≡ sum m (λ j. F N k j) = ap (λ (w : List ℤ). at w k) b ∙ base-at N k p in
+    rw (first, second, third) (sum-lifted m (pos (2 ^ 29)) (pos (2 ^ 26)) (at x) (λ j. F N k j))
+    in
+    h
+    ∙ ap (λ (n : ℕ). table n (λ k. at t k -ℤ pos (2 ^ 26) *ℤ sum n (at z) -ℤ pos (2 ^ 29) *ℤ at base k)) long
+    ∙ table-ext m (λ k. at t k -ℤ pos (2 ^ 26) *ℤ sum m (at z) -ℤ pos (2 ^ 29) *ℤ at base k) (λ k. sum m (λ j. at x j *ℤ F N k j)) each
