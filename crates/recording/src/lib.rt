@@ -40,15 +40,15 @@ pub fn analyse(route: Route, n: usize, blocks: usize, x: &[i16], out: &mut [i32]
     }
 }
 
-// The samples of a recording, hop after hop: a step for each block, from a fresh stream.
+// The samples of a recording, hop after hop: a step for each block, from a fresh stream, its tail in place.
 pub fn synthesise(n: usize, blocks: usize, x: &[i32], out: &mut [i16])
     requires { ⌜ T (tabled n) × (blocks ≤ 4096) × (length (now x) ≡ blocks * (n / 2)) × Small (now x) (2 ^ 29) × (length (now out) ≡ blocks * (n / 2)) ⌝ }
     ensures { λ _. ⌜ now (out .exit) ≡ synthesis n blocks (now (x .entry)) ⌝ }
 {
     let m = n / 2;
-    let mut s = stream::fresh(n);
+    let mut tail = [0i64; stream::STORAGE];
     for h in 0..blocks {
         let at = h * m;
-        s = stream::advance(s, &x[at..at + m], &mut out[at..at + m]);
+        stream::advance_tail(n, &x[at..at + m], &mut tail, &mut out[at..at + m]);
     }
 }

@@ -106,7 +106,7 @@ fn turn_less(e: i32, f: i32, p: i32, q: i32) -> i64
     )
 }
 
-// e (p - 2^27) + f (q - 2^27).
+// e (p - 2^27) + f (q - 2^27). What is taken out of the sum takes the lifts' own product, 2^53, out twice too often: 2^54 is put back.
 fn turn_more(e: i32, f: i32, p: i32, q: i32) -> i64
     requires { ⌜ (natAbs e ≤ 2 ^ 26) × (natAbs f ≤ 2 ^ 26) × (natAbs (p -ℤ pos (2 ^ 27)) ≤ 2 ^ 27) × (natAbs (q -ℤ pos (2 ^ 27)) ≤ 2 ^ 27) ⌝ }
     ensures { λ r. ⌜ r ≡ e *ℤ (p -ℤ pos (2 ^ 27)) +ℤ f *ℤ (q -ℤ pos (2 ^ 27)) ⌝ }

@@ -177,3 +177,13 @@ lowered-is N x z rows base t s l e r b u h =
     h
     ∙ ap (λ (n : ℕ). table n (λ k. at t k -ℤ pos (2 ^ 26) *ℤ sum n (at z) -ℤ pos (2 ^ 29) *ℤ at base k)) long
     ∙ table-ext m (λ k. at t k -ℤ pos (2 ^ 26) *ℤ sum m (at z) -ℤ pos (2 ^ 29) *ℤ at base k) (λ k. sum m (λ j. at x j *ℤ F N k j)) each
+
+-- the sums of inputs that are not lifted
+pub plain-is : (N : ℕ) (x rows : List ℤ) (k : ℕ) → length x ≡ N / 2 → rows ≡ liftList N → k < N / 2 →
+    sum (length x) (λ j. at x j *ℤ (at rows (j * length x + k) -ℤ pos (2 ^ 26))) ≡ folds N x k
+unfolding folds
+plain-is N x rows k l r p =
+    let m = N / 2 in
+    ap (λ (n : ℕ). sum n (λ j. at x j *ℤ (at rows (j * n + k) -ℤ pos (2 ^ 26)))) l
+    ∙ sum-ext m (λ j. at x j *ℤ (at rows (j * m + k) -ℤ pos (2 ^ 26))) (λ j. at x j *ℤ F N k j)
+    (λ j q. ap (λ (z : ℤ). at x j *ℤ z) (rw (r, lift-at N j k q p) (simp ints (omega zarith))))

@@ -39,10 +39,9 @@ fn direct_12(x: &[i16], out: &mut [i32])
     ensures { λ _. ⌜ now (out .exit) ≡ direct 12 (y 12 (rising 12) (falling 12) (now (x .entry))) ⌝ }
 {
     let mut z = [0i32; 6];
-    let mut l = [0i32; 6];
     let mut t = [0i64; 6];
     folded_block(12, &tables::RISE_12, &tables::FALL_12, x, &mut z);
-    sums::sums(12, &z, &tables::ROWS_12, &tables::BASE_12, &mut l, &mut t);
+    sums::plain_sums(12, &z, &tables::ROWS_12, &mut t);
     direct_block(12, x, &z, &t, out);
 }
 
@@ -114,9 +113,8 @@ pub fn inverse_12(x: &[i32], v: &mut [i64])
     requires { ⌜ (length (now x) ≡ 6) × Small (now x) (2 ^ 29) × (length (now v) ≡ 12) ⌝ }
     ensures { λ _. ⌜ now (v .exit) ≡ table 12 (V′ 12 (rising 12) (falling 12) (now (x .entry))) ⌝ }
 {
-    let mut l = [0i32; 6];
     let mut t = [0i64; 6];
-    sums::sums(12, x, &tables::ROWS_12, &tables::BASE_12, &mut l, &mut t);
+    sums::plain_sums(12, x, &tables::ROWS_12, &mut t);
     inverse_block(12, &tables::RISE_12, &tables::FALL_12, x, &t, v);
 }
 

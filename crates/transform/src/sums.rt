@@ -97,6 +97,36 @@ pub fn sums(n: usize, x: &[i32], rows: &[i32], base: &[i32], z: &mut [i32], t: &
     lower(z, base, t);
 }
 
+// A product with a number of the lifted kernel, its lift taken off first.
+fn signed(a: i32, b: i32) -> i64
+    ensures { λ r. ⌜ r ≡ a *ℤ (b -ℤ pos (2 ^ 26)) ⌝ }
+{
+    a as i64 * (b as i64 - KERNEL)
+}
+
+// Sum k of inputs that are not lifted.
+fn plain(x: &[i32], rows: &[i32], k: usize) -> i64
+    requires { ⌜ (length (now rows) ≡ length (now x) * length (now x)) × (k < length (now x)) × (length (now x) ≤ 36) × Small (now x) (2 ^ 29) × Lifted (now rows) (2 ^ 27) ⌝ }
+    ensures { λ r. ⌜ r ≡ sum (length (now (x .entry))) (λ j. at (now (x .entry)) j *ℤ (at (now (rows .entry)) (j * length (now (x .entry)) + k) -ℤ pos (2 ^ 26))) ⌝ }
+{
+    let m = x.len();
+    let mut acc: i64 = 0;
+    for j in 0..m {
+        acc += signed(x[j], rows[j * m + k]);
+    }
+    acc
+}
+
+// The same sums as `sums`, for the shortest length: six terms are too few for the lifts to pay.
+pub fn plain_sums(n: usize, x: &[i32], rows: &[i32], t: &mut [i64])
+    requires { ⌜ (n / 2 ≤ 36) × (length (now x) ≡ n / 2) × Small (now x) (2 ^ 29) × (now rows ≡ liftList n) × (length (now t) ≡ n / 2) ⌝ }
+    ensures { λ _. ⌜ (now (t .exit) ≡ table (n / 2) (folds n (now (x .entry)))) × Small (now (t .exit)) (2 ^ 62) ⌝ }
+{
+    for k in 0..t.len() {
+        t[k] = plain(x, rows, k);
+    }
+}
+
 fn coefficient(sum: i64) -> i32
     requires { ⌜ natAbs sum ≤ 2 ^ 58 ⌝ }
     ensures { λ r. ⌜ r ≡ rnd sum (2 ^ 28) ⌝ }

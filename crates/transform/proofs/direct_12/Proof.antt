@@ -4,7 +4,6 @@ use native.Mathlib.Omega.{arith}
 use lib.ListN.{length}
 use Rattle.arithmetic.specs.Lists.{at, table, every}
 use Rattle.arithmetic.specs.ListLaws.{length-table}
-use Rattle.arithmetic.specs.Sums.{sum}
 use Rattle.cosine.specs.Cosine.{reduced, toHalf, toTurn, continued}
 use Rattle.cosine.specs.Kernels.{tabled, lengths}
 use Rattle.cosine.specs.TableLaws.{numbers}
@@ -12,7 +11,7 @@ use Rattle.cosine.specs.CosineLaws.{tableC}
 use Rattle.transform.specs.Analysis.{y}
 use Rattle.transform.specs.FoldLaws.{folded}
 use Rattle.transform.specs.HalfLaws.{riseList, fallList, riseNumbers, fallNumbers, rise-numbers, fall-numbers}
-use Rattle.transform.specs.LiftLaws.{liftNumbers, baseNumbers, lift-numbers, base-numbers}
+use Rattle.transform.specs.LiftLaws.{liftNumbers, lift-numbers}
 use borrow.Author.Needs.{needs}
 use Rattle.transform.proofs.direct_12.Statement.{statement}
 use Rattle.transform.proofs.direct_12.Tie as tie
@@ -30,32 +29,24 @@ folded-block-requires : tie.Need-folded-block-requires
 unfolding tabled every lengths riseNumbers fallNumbers table tableC continued toTurn toHalf reduced numbers
 folded-block-requires c κs = (tt, rise-numbers 12, fall-numbers 12, c .before .before .before .pre .0, refl)
 
-slice-aggregate-sums : tie.Need-slice-aggregate-sums
-slice-aggregate-sums c = search needs
+slice-aggregate-plain-sums : tie.Need-slice-aggregate-plain-sums
+slice-aggregate-plain-sums c = search needs
 
-slice-aggregate-sums-2 : tie.Need-slice-aggregate-sums-2
-slice-aggregate-sums-2 c = search needs
+slice-aggregate-plain-sums-2 : tie.Need-slice-aggregate-plain-sums-2
+slice-aggregate-plain-sums-2 c = search needs
 
-slice-aggregate-sums-3 : tie.Need-slice-aggregate-sums-3
-slice-aggregate-sums-3 c = search needs
+slice-aggregate-plain-sums-3 : tie.Need-slice-aggregate-plain-sums-3
+slice-aggregate-plain-sums-3 c = search needs
 
-slice-aggregate-sums-4 : tie.Need-slice-aggregate-sums-4
-slice-aggregate-sums-4 c = search needs
-
-slice-aggregate-sums-5 : tie.Need-slice-aggregate-sums-5
-slice-aggregate-sums-5 c = search needs
-
-sums-requires : tie.Need-sums-requires
-unfolding tabled every lengths liftNumbers baseNumbers sum table tableC continued toTurn toHalf reduced numbers
-sums-requires c κs =
-    let f = c .before .before .before .before .before .before in
+plain-sums-requires : tie.Need-plain-sums-requires
+unfolding liftNumbers table tableC continued toTurn toHalf reduced numbers
+plain-sums-requires c κs =
+    let f = c .before .before .before .before in
     let x = f .before .before .before .before .args .x .now in (
       omega arith,
       ap length (f .folded-block .ensures .0) ∙ length-table (folded 12 (y 12 (at (riseList 12)) (at (fallList 12)) x)) 6,
       record { small = λ i p. omega (arith, f .folded-block .ensures .1 .small i p) },
       lift-numbers 12,
-      base-numbers 12,
-      refl,
       refl,
     )
 
@@ -68,9 +59,9 @@ slice-aggregate-direct-block-2 c = search needs
 direct-block-requires : tie.Need-direct-block-requires
 unfolding tabled every lengths
 direct-block-requires c κs =
-    let s = c .before .before .before .before .before in
-    let f = s .before .before .before .before .before .before .before in
-    (tt, f .folded-block .ensures .0, f .folded-block .ensures .1, s .sums .ensures .0, f .before .before .before .before .pre .1)
+    let s = c .before .before .before .before in
+    let f = s .before .before .before .before .before in
+    (tt, f .folded-block .ensures .0, f .folded-block .ensures .1, s .plain-sums .ensures .0, f .before .before .before .before .pre .1)
 
 same-length : tie.Need-same-length
 same-length c = search needs
@@ -86,12 +77,10 @@ direct-12-spec =
     slice-aggregate-folded-block-2
     slice-aggregate-folded-block-3
     folded-block-requires
-    slice-aggregate-sums
-    slice-aggregate-sums-2
-    slice-aggregate-sums-3
-    slice-aggregate-sums-4
-    slice-aggregate-sums-5
-    sums-requires
+    slice-aggregate-plain-sums
+    slice-aggregate-plain-sums-2
+    slice-aggregate-plain-sums-3
+    plain-sums-requires
     slice-aggregate-direct-block
     slice-aggregate-direct-block-2
     direct-block-requires
