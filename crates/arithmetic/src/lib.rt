@@ -1,5 +1,5 @@
 // Rounding and clamping of signed sums. The laws of whole numbers that every other crate cites are in specs/.
-// No function here is a public call: `transform` and `stream` call them, each under its requires.
+// No function here is a public call: `transform`, `short_route`, `stream` and `listing` call them, each under its requires.
 ghost use mathlib.Core.Path.{_≡_};
 ghost use Prim.Native.Nat.{_≤_, _<_, _*_, _^_};
 ghost use lib.IntN.{pos, negℤ, natAbs};

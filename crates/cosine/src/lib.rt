@@ -1,5 +1,5 @@
 // The cosine table, the window and the kernels, read at any place. The facts about them are in specs/.
-// No function here is a public call: `transform` and `filter_bank` call them, each under its requires.
+// No function here is a public call: `filter_bank` and `listing` call them, each under its requires.
 ghost use mathlib.Core.Path.{_≡_};
 ghost use Prim.Native.Nat.{_≤_, _<_, _*_, _/_, _^_};
 ghost use lib.Dec.{T};

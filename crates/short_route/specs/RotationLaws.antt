@@ -13,18 +13,18 @@ use Rattle.cosine.specs.Cosine.{quarter, third, sixth, twelfth, C}
 use Rattle.cosine.specs.Kernels.{s, eB, fB, eC, fC}
 use Rattle.cosine.specs.CosineLaws.{tableC, C-table}
 
--- one of the four, eB, fB, eC or fC, as a list, lifted
-unfoldable pub lifted : (ℕ → ℕ → ℤ) → ℕ → List ℤ
-lifted c N = table (N / 3) (λ n. c N n +ℤ pos (2 ^ 27))
+-- one of the four, eB, fB, eC or fC, as a list, cosines
+unfoldable pub cosines : (ℕ → ℕ → ℤ) → ℕ → List ℤ
+cosines c N = table (N / 3) (λ n. c N n +ℤ pos (2 ^ 27))
 
 module _ (c : ℕ → ℕ → ℤ) (N : ℕ) where
-  pub lifted-length : length (lifted c N) ≡ N / 3
-  unfolding lifted
-  lifted-length = length-table (λ n. c N n +ℤ pos (2 ^ 27)) (N / 3)
+  pub cosines-length : length (cosines c N) ≡ N / 3
+  unfolding cosines
+  cosines-length = length-table (λ n. c N n +ℤ pos (2 ^ 27)) (N / 3)
 
-  pub lifted-at : (n : ℕ) → n < N / 3 → at (lifted c N) n -ℤ pos (2 ^ 27) ≡ c N n
-  unfolding lifted
-  lifted-at n p = rw (getD-table (λ n. c N n +ℤ pos (2 ^ 27)) (pos 0) (N / 3) n p) (back (c N n))
+  pub cosines-at : (n : ℕ) → n < N / 3 → at (cosines c N) n -ℤ pos (2 ^ 27) ≡ c N n
+  unfolding cosines
+  cosines-at n p = rw (getD-table (λ n. c N n +ℤ pos (2 ^ 27)) (pos 0) (N / 3) n p) (back (c N n))
     where
       back : (z : ℤ) → z +ℤ pos (2 ^ 27) -ℤ pos (2 ^ 27) ≡ z
       back z = simp ints (omega arith)
@@ -49,12 +49,12 @@ eCNumbers = oneNumbers pos
 abbrev pub fCNumbers : ℕ → List ℤ
 fCNumbers = twoNumbers (λ s. pos sixth -ℤ pos s) (λ s. pos third -ℤ pos s)
 
-one-numbers : (t : ℕ → ℤ) (c : ℕ → ℕ → ℤ) (N : ℕ) → ((n : ℕ) → tableC (t (s N n)) ≡ c N n) → oneNumbers t N ≡ lifted c N
-unfolding oneNumbers lifted
+one-numbers : (t : ℕ → ℤ) (c : ℕ → ℕ → ℤ) (N : ℕ) → ((n : ℕ) → tableC (t (s N n)) ≡ c N n) → oneNumbers t N ≡ cosines c N
+unfolding oneNumbers cosines
 one-numbers t c N e = table-ext (N / 3) (λ n. tableC (t (s N n)) +ℤ pos (2 ^ 27)) (λ n. c N n +ℤ pos (2 ^ 27)) (λ n p. ap (λ (z : ℤ). z +ℤ pos (2 ^ 27)) (e n))
 
-two-numbers : (t u : ℕ → ℤ) (c : ℕ → ℕ → ℤ) (N : ℕ) → ((n : ℕ) → tableC (t (s N n)) +ℤ tableC (u (s N n)) ≡ c N n) → twoNumbers t u N ≡ lifted c N
-unfolding twoNumbers lifted
+two-numbers : (t u : ℕ → ℤ) (c : ℕ → ℕ → ℤ) (N : ℕ) → ((n : ℕ) → tableC (t (s N n)) +ℤ tableC (u (s N n)) ≡ c N n) → twoNumbers t u N ≡ cosines c N
+unfolding twoNumbers cosines
 two-numbers t u c N e =
     table-ext (N / 3) (λ n. tableC (t (s N n)) +ℤ tableC (u (s N n)) +ℤ pos (2 ^ 27)) (λ n. c N n +ℤ pos (2 ^ 27)) (λ n p. ap (λ (z : ℤ). z +ℤ pos (2 ^ 27)) (e n))
 
@@ -63,19 +63,19 @@ module _ (N : ℕ) where
   two : (t u : ℤ) → tableC t +ℤ tableC u ≡ C t +ℤ C u
   two t u = ap₂ (λ (x y : ℤ). x +ℤ y) (sym (C-table t)) (sym (C-table u))
 
-  pub eB-numbers : eBNumbers N ≡ lifted eB N
+  pub eB-numbers : eBNumbers N ≡ cosines eB N
   unfolding eB
   eB-numbers = one-numbers (λ s. pos quarter -ℤ pos s) eB N (λ n. sym (C-table (pos quarter -ℤ pos (s N n))))
 
-  pub fB-numbers : fBNumbers N ≡ lifted fB N
+  pub fB-numbers : fBNumbers N ≡ cosines fB N
   unfolding fB
   fB-numbers = two-numbers (λ s. pos s -ℤ pos twelfth) (λ s. pos s +ℤ pos twelfth) fB N (λ n. two (pos (s N n) -ℤ pos twelfth) (pos (s N n) +ℤ pos twelfth))
 
-  pub eC-numbers : eCNumbers N ≡ lifted eC N
+  pub eC-numbers : eCNumbers N ≡ cosines eC N
   unfolding eC
   eC-numbers = one-numbers pos eC N (λ n. sym (C-table (pos (s N n))))
 
-  pub fC-numbers : fCNumbers N ≡ lifted fC N
+  pub fC-numbers : fCNumbers N ≡ cosines fC N
   unfolding fC
   fC-numbers = two-numbers (λ s. pos sixth -ℤ pos s) (λ s. pos third -ℤ pos s) fC N (λ n. two (pos sixth -ℤ pos (s N n)) (pos third -ℤ pos (s N n)))
 

@@ -2,7 +2,6 @@
 use mathlib.Core.Path.{_≡_}
 use mathlib.Core.List.{List}
 use Prim.Native.Nat.{ℕ, _*_, _/_}
-use native.Mathlib.Omega.{arith}
 use lib.Dec.{T}
 use lib.IntN.{ℤ, _+ℤ_, _-ℤ_, _*ℤ_, *ℤ-comm}
 use Rattle.arithmetic.specs.Sums.{sum}
@@ -30,9 +29,6 @@ sumsB N y = table (N / 6) (B N y)
 
 abbrev pub sumsG : ℕ → (ℕ → ℤ) → List ℤ
 sumsG N y = table (N / 6) (G N y)
-
-pub half-third : (N : ℕ) → N / 3 / 2 ≡ N / 6
-half-third N = omega arith
 
 module _ (N : ℕ) (o : T (offered N)) where
   -- a sum over the short kernel is the direct sum of a third of the length

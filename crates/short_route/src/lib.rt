@@ -1,5 +1,5 @@
 // The short route's analysis of one block of a length at which it is offered, valid by its requires. Definitions are in specs/.
-// No function here is a public call: `filter_bank` calls `analyse` after every check.
+// No function here is a public call: `recording` calls `analyse`, after every check of the public calls.
 mod block;
 mod parts;
 mod split;
@@ -116,7 +116,7 @@ fn short_72(x: &[i16], out: &mut [i32])
     short_block(72, x, &block, &a, &plus, &minus, out);
 }
 
-// The coefficients of a block, for `filter_bank`: each length lends its own tables.
+// The coefficients of a block, for `recording`: each length lends its own tables.
 pub fn analyse(n: usize, x: &[i16], out: &mut [i32])
     requires { ⌜ T (offered n) × (length (now x) ≡ n) × (length (now out) ≡ n / 2) ⌝ }
     ensures { λ _. ⌜ now (out .exit) ≡ short n (y n (rising n) (falling n) (now (x .entry))) ⌝ }

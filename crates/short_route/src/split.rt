@@ -11,7 +11,7 @@ ghost use Rattle.short_route.specs.ShortRoute.{offered, a, b, c, e, f, r
 ghost use Rattle.transform.specs.LiftLaws.{liftList, baseList, raised};
 ghost use Rattle.short_route.specs.ShortFoldLaws.{middle, turnedC, sumsA, sumsB, sumsG};
 ghost use Rattle.short_route.specs.PartLaws.{inputs, Inputs};
-ghost use Rattle.short_route.specs.RotationLaws.{lifted};
+ghost use Rattle.short_route.specs.RotationLaws.{cosines};
 use crate::parts::part_inputs;
 use crate::parts::three;
 use crate::tables;
@@ -83,7 +83,7 @@ fn plain(p: i32) -> u64
 }
 
 // s - 2^27 u - 2^26 v.
-fn lowered(s: i64, u: i64, v: i64) -> i64
+fn without_lifts(s: i64, u: i64, v: i64) -> i64
     requires { ⌜ (natAbs s ≤ 2 ^ 56) × (natAbs u ≤ 2 ^ 28) × (natAbs v ≤ 2 ^ 29) ⌝ }
     ensures { λ r. ⌜ (r ≡ s -ℤ u *ℤ pos (2 ^ 27) -ℤ v *ℤ pos (2 ^ 26)) × (natAbs r ≤ 2 ^ 58) ⌝ }
 {
@@ -99,14 +99,14 @@ fn turn_less(e: i32, f: i32, p: i32, q: i32) -> i64
     let b = up(f);
     let c = plain(p);
     let d = plain(q);
-    lowered(
+    without_lifts(
         (a * c) as i64 - (b * d) as i64,
         a as i64 - b as i64,
         c as i64 - d as i64,
     )
 }
 
-// e (p - 2^27) + f (q - 2^27). What is taken out of the sum takes the lifts' own product, 2^53, out twice too often: 2^54 is put back.
+// e (p - 2^27) + f (q - 2^27). Each product has the lifts' own, 2^53, taken out once too often: 2^54 is put back.
 fn turn_more(e: i32, f: i32, p: i32, q: i32) -> i64
     requires { ⌜ (natAbs e ≤ 2 ^ 26) × (natAbs f ≤ 2 ^ 26) × (natAbs (p -ℤ pos (2 ^ 27)) ≤ 2 ^ 27) × (natAbs (q -ℤ pos (2 ^ 27)) ≤ 2 ^ 27) ⌝ }
     ensures { λ r. ⌜ r ≡ e *ℤ (p -ℤ pos (2 ^ 27)) +ℤ f *ℤ (q -ℤ pos (2 ^ 27)) ⌝ }
@@ -115,12 +115,12 @@ fn turn_more(e: i32, f: i32, p: i32, q: i32) -> i64
     let b = up(f);
     let c = plain(p);
     let d = plain(q);
-    lowered((a * c + b * d) as i64, (a + b) as i64, (c + d) as i64) + 18014398509481984
+    without_lifts((a * c + b * d) as i64, (a + b) as i64, (c + d) as i64) + 18014398509481984
 }
 
 // rB at place n.
 fn rb_at(y: &[i32], eb: &[i32], fb: &[i32], n: usize) -> i32
-    requires { ⌜ (n < length (now y) / 3) × Small (now y) (2 ^ 23) × (now eb ≡ lifted eB (length (now y))) × (now fb ≡ lifted fB (length (now y))) ⌝ }
+    requires { ⌜ (n < length (now y) / 3) × Small (now y) (2 ^ 23) × (now eb ≡ cosines eB (length (now y))) × (now fb ≡ cosines fB (length (now y))) ⌝ }
     ensures { λ r. ⌜ r ≡ rB (length (now (y .entry))) (at (now (y .entry))) n ⌝ }
 {
     arithmetic::rnd_shift(turn_less(e_at(y, n), f_at(y, n), eb[n], fb[n]), 26) as i32
@@ -128,7 +128,7 @@ fn rb_at(y: &[i32], eb: &[i32], fb: &[i32], n: usize) -> i32
 
 // rC at place n.
 fn rc_at(y: &[i32], ec: &[i32], fc: &[i32], n: usize) -> i32
-    requires { ⌜ (n < length (now y) / 3) × Small (now y) (2 ^ 23) × (now ec ≡ lifted eC (length (now y))) × (now fc ≡ lifted fC (length (now y))) ⌝ }
+    requires { ⌜ (n < length (now y) / 3) × Small (now y) (2 ^ 23) × (now ec ≡ cosines eC (length (now y))) × (now fc ≡ cosines fC (length (now y))) ⌝ }
     ensures { λ r. ⌜ r ≡ rC (length (now (y .entry))) (at (now (y .entry))) n ⌝ }
 {
     arithmetic::rnd_shift(turn_more(e_at(y, n), f_at(y, n), ec[n], fc[n]), 26) as i32
@@ -136,7 +136,7 @@ fn rc_at(y: &[i32], ec: &[i32], fc: &[i32], n: usize) -> i32
 
 // rC at place n, its sign changed where n + N/12 is even.
 fn signed_rc_at(y: &[i32], ec: &[i32], fc: &[i32], n: usize) -> i32
-    requires { ⌜ (n < length (now y) / 3) × Small (now y) (2 ^ 23) × (now ec ≡ lifted eC (length (now y))) × (now fc ≡ lifted fC (length (now y))) ⌝ }
+    requires { ⌜ (n < length (now y) / 3) × Small (now y) (2 ^ 23) × (now ec ≡ cosines eC (length (now y))) × (now fc ≡ cosines fC (length (now y))) ⌝ }
     ensures { λ r. ⌜ r ≡ turnedC (length (now (y .entry))) (at (now (y .entry))) n ⌝ }
 {
     let r = rc_at(y, ec, fc, n);
@@ -154,7 +154,7 @@ fn fill_middle(y: &[i32], w: &mut [i32])
 }
 
 fn fill_rb(y: &[i32], eb: &[i32], fb: &[i32], w: &mut [i32])
-    requires { ⌜ (length (now w) ≡ length (now y) / 3) × Small (now y) (2 ^ 23) × (now eb ≡ lifted eB (length (now y))) × (now fb ≡ lifted fB (length (now y))) ⌝ }
+    requires { ⌜ (length (now w) ≡ length (now y) / 3) × Small (now y) (2 ^ 23) × (now eb ≡ cosines eB (length (now y))) × (now fb ≡ cosines fB (length (now y))) ⌝ }
     ensures { λ _. ⌜ now (w .exit) ≡ table (length (now (y .entry)) / 3) (rB (length (now (y .entry))) (at (now (y .entry)))) ⌝ }
 {
     for n in 0..w.len() {
@@ -163,7 +163,7 @@ fn fill_rb(y: &[i32], eb: &[i32], fb: &[i32], w: &mut [i32])
 }
 
 fn fill_rc(y: &[i32], ec: &[i32], fc: &[i32], w: &mut [i32])
-    requires { ⌜ (length (now w) ≡ length (now y) / 3) × Small (now y) (2 ^ 23) × (now ec ≡ lifted eC (length (now y))) × (now fc ≡ lifted fC (length (now y))) ⌝ }
+    requires { ⌜ (length (now w) ≡ length (now y) / 3) × Small (now y) (2 ^ 23) × (now ec ≡ cosines eC (length (now y))) × (now fc ≡ cosines fC (length (now y))) ⌝ }
     ensures { λ _. ⌜ now (w .exit) ≡ table (length (now (y .entry)) / 3) (turnedC (length (now (y .entry))) (at (now (y .entry)))) ⌝ }
 {
     for n in 0..w.len() {

@@ -1,5 +1,5 @@
-// The synthesis stream by value: a fresh one, and one step on valid input.
-// No function here is a public call: `filter_bank` calls them, under their requires, after every check.
+// The synthesis stream: a fresh one, and one step on valid input, by value and in place.
+// No function here is a public call: `filter_bank`, `recording` and `listing` call them, under their requires, after every check.
 ghost use mathlib.Core.Path.{_≡_};
 ghost use mathlib.Core.List.{_++_};
 ghost use Prim.Native.Nat.{_+_, _*_, _/_, _^_, _≤_, _<_};

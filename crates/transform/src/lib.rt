@@ -1,5 +1,5 @@
 // One block of a tabled length, valid by its requires: window, fold, direct analysis, inverse. Definitions are in specs/.
-// No function here is a public call: `filter_bank`, `stream` and `short_route` call them after every check.
+// No function here is a public call: `recording`, `stream`, `short_route` and `listing` call them, after every check of the public calls.
 mod fold;
 pub mod sums;
 pub mod tables;
@@ -81,7 +81,7 @@ fn direct_72(x: &[i16], out: &mut [i32])
     direct_block(72, x, &z, &t, out);
 }
 
-// The coefficients of a block by the direct route, for `filter_bank`: each length lends its own tables.
+// The coefficients of a block by the direct route, for `recording`: each length lends its own tables.
 pub fn analyse_direct(n: usize, x: &[i16], out: &mut [i32])
     requires { ⌜ T (tabled n) × (length (now x) ≡ n) × (length (now out) ≡ n / 2) ⌝ }
     ensures { λ _. ⌜ now (out .exit) ≡ direct n (y n (rising n) (falling n) (now (x .entry))) ⌝ }

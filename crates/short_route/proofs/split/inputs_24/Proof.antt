@@ -14,7 +14,7 @@ use Rattle.cosine.specs.CosineLaws.{tableC}
 use Rattle.short_route.specs.ShortRoute.{offered, rB}
 use Rattle.short_route.specs.ShortFoldLaws.{middle, turnedC}
 use Rattle.short_route.specs.ShortSizeLaws.{middle-size, rB-size, turned-size}
-use Rattle.short_route.specs.RotationLaws.{lifted, oneNumbers, twoNumbers, eB-numbers, fB-numbers, eC-numbers, fC-numbers}
+use Rattle.short_route.specs.RotationLaws.{cosines, oneNumbers, twoNumbers, eB-numbers, fB-numbers, eC-numbers, fC-numbers}
 use Rattle.short_route.specs.PartLaws.{inputs, third-is-part, third-small}
 use borrow.Author.Needs.{needs}
 use Rattle.short_route.proofs.split.inputs_24.Statement.{statement}
@@ -81,7 +81,7 @@ unfolding oneNumbers twoNumbers table tableC s continued toTurn toHalf reduced n
 fill-rb-requires c κs =
     let f = c .before .before .before .before .before .before .before .before .before .before in
     let x = f .before .before in
-    (ap length (f .fill-middle .ensures) ∙ length-table (middle (N x) (u x)) (N x / 3), x .pre .1, eB-numbers 24 ∙ ap (lifted eB) (is x), fB-numbers 24 ∙ ap (lifted fB) (is x))
+    (ap length (f .fill-middle .ensures) ∙ length-table (middle (N x) (u x)) (N x / 3), x .pre .1, eB-numbers 24 ∙ ap (cosines eB) (is x), fB-numbers 24 ∙ ap (cosines fB) (is x))
 
 slice-aggregate-part-inputs-3 : tie.Need-slice-aggregate-part-inputs-3
 slice-aggregate-part-inputs-3 c = search needs
@@ -111,7 +111,7 @@ unfolding oneNumbers twoNumbers table tableC s continued toTurn toHalf reduced n
 fill-rc-requires c κs =
     let f = c .before .before .before .before .before .before .before .before .before .before in
     let x = f .before .before .before .before .before .before .before .before .before .before .before .before .before in
-    (ap length (f .fill-rb .ensures) ∙ length-table (rB (N x) (u x)) (N x / 3), x .pre .1, eC-numbers 24 ∙ ap (lifted eC) (is x), fC-numbers 24 ∙ ap (lifted fC) (is x))
+    (ap length (f .fill-rb .ensures) ∙ length-table (rB (N x) (u x)) (N x / 3), x .pre .1, eC-numbers 24 ∙ ap (cosines eC) (is x), fC-numbers 24 ∙ ap (cosines fC) (is x))
 
 slice-aggregate-part-inputs-5 : tie.Need-slice-aggregate-part-inputs-5
 slice-aggregate-part-inputs-5 c = search needs

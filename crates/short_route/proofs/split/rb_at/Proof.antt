@@ -13,7 +13,7 @@ use Rattle.arithmetic.specs.OrderLaws.{sfits-abs, abs-sub, abs-mul-le}
 use Rattle.cosine.specs.Kernels.{eB, fB}
 use Rattle.short_route.specs.ShortRoute.{e, f, rB}
 use Rattle.short_route.specs.ShortSizeLaws.{e-size, f-size, eB-size, fB-size, rB-size}
-use Rattle.short_route.specs.RotationLaws.{lifted-at, lifted-length}
+use Rattle.short_route.specs.RotationLaws.{cosines-at, cosines-length}
 use borrow.Author.Needs.{needs}
 use Rattle.short_route.proofs.split.rb_at.Statement.{statement}
 use Rattle.short_route.proofs.split.rb_at.Tie as tie
@@ -41,13 +41,13 @@ mul-turn-less : tie.Need-mul-turn-less
 mul-turn-less c = search needs
 
 shared-slice-copy-out-turn-less : tie.Need-shared-slice-copy-out-turn-less
-shared-slice-copy-out-turn-less c = let s = c .before .before in rw (s .pre .2, lifted-length eB (N s)) (s .pre .0)
+shared-slice-copy-out-turn-less c = let s = c .before .before in rw (s .pre .2, cosines-length eB (N s)) (s .pre .0)
 
 mul-turn-less-2 : tie.Need-mul-turn-less-2
 mul-turn-less-2 c = search needs
 
 shared-slice-copy-out-turn-less-2 : tie.Need-shared-slice-copy-out-turn-less-2
-shared-slice-copy-out-turn-less-2 c = let s = c .before .before .before in rw (s .pre .3, lifted-length fB (N s)) (s .pre .0)
+shared-slice-copy-out-turn-less-2 c = let s = c .before .before .before in rw (s .pre .3, cosines-length fB (N s)) (s .pre .0)
 
 -- e, f and their cosines, as the machine has them
 module _ (c : tie.After-turn-less-arg2) where
@@ -63,12 +63,12 @@ module _ (c : tie.After-turn-less-arg2) where
   eB-is : toZ w32 (ofZ w32 (at (s .args .eb .now) (n s))) -ℤ pos (2 ^ 27) ≡ eB (N s) (n s)
   eB-is =
       ap (λ (z : ℤ). z -ℤ pos (2 ^ 27)) (toZ-ofZ {w = w32} {z = at (s .args .eb .now) (n s)} (record { sfits = c .before .turn-less-arg .given }) ∙ ap (λ (l : List ℤ). at l (n s)) (s .pre .2))
-      ∙ lifted-at eB (N s) (n s) (s .pre .0)
+      ∙ cosines-at eB (N s) (n s) (s .pre .0)
 
   fB-is : toZ w32 (ofZ w32 (at (s .args .fb .now) (n s))) -ℤ pos (2 ^ 27) ≡ fB (N s) (n s)
   fB-is =
       ap (λ (z : ℤ). z -ℤ pos (2 ^ 27)) (toZ-ofZ {w = w32} {z = at (s .args .fb .now) (n s)} (record { sfits = c .turn-less-arg2 .given }) ∙ ap (λ (l : List ℤ). at l (n s)) (s .pre .3))
-      ∙ lifted-at fB (N s) (n s) (s .pre .0)
+      ∙ cosines-at fB (N s) (n s) (s .pre .0)
 
 turn-less-requires : tie.Need-turn-less-requires
 turn-less-requires c κs =

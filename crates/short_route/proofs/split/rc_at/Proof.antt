@@ -13,7 +13,7 @@ use Rattle.arithmetic.specs.OrderLaws.{sfits-abs, abs-add, abs-mul-le}
 use Rattle.cosine.specs.Kernels.{eC, fC}
 use Rattle.short_route.specs.ShortRoute.{e, f, rC}
 use Rattle.short_route.specs.ShortSizeLaws.{e-size, f-size, eC-size, fC-size, rC-size}
-use Rattle.short_route.specs.RotationLaws.{lifted-at, lifted-length}
+use Rattle.short_route.specs.RotationLaws.{cosines-at, cosines-length}
 use borrow.Author.Needs.{needs}
 use Rattle.short_route.proofs.split.rc_at.Statement.{statement}
 use Rattle.short_route.proofs.split.rc_at.Tie as tie
@@ -41,13 +41,13 @@ mul-turn-more : tie.Need-mul-turn-more
 mul-turn-more c = search needs
 
 shared-slice-copy-out-turn-more : tie.Need-shared-slice-copy-out-turn-more
-shared-slice-copy-out-turn-more c = let s = c .before .before in rw (s .pre .2, lifted-length eC (N s)) (s .pre .0)
+shared-slice-copy-out-turn-more c = let s = c .before .before in rw (s .pre .2, cosines-length eC (N s)) (s .pre .0)
 
 mul-turn-more-2 : tie.Need-mul-turn-more-2
 mul-turn-more-2 c = search needs
 
 shared-slice-copy-out-turn-more-2 : tie.Need-shared-slice-copy-out-turn-more-2
-shared-slice-copy-out-turn-more-2 c = let s = c .before .before .before in rw (s .pre .3, lifted-length fC (N s)) (s .pre .0)
+shared-slice-copy-out-turn-more-2 c = let s = c .before .before .before in rw (s .pre .3, cosines-length fC (N s)) (s .pre .0)
 
 -- e, f and their cosines, as the machine has them
 module _ (c : tie.After-turn-more-arg2) where
@@ -63,12 +63,12 @@ module _ (c : tie.After-turn-more-arg2) where
   eC-is : toZ w32 (ofZ w32 (at (s .args .ec .now) (n s))) -ℤ pos (2 ^ 27) ≡ eC (N s) (n s)
   eC-is =
       ap (λ (z : ℤ). z -ℤ pos (2 ^ 27)) (toZ-ofZ {w = w32} {z = at (s .args .ec .now) (n s)} (record { sfits = c .before .turn-more-arg .given }) ∙ ap (λ (l : List ℤ). at l (n s)) (s .pre .2))
-      ∙ lifted-at eC (N s) (n s) (s .pre .0)
+      ∙ cosines-at eC (N s) (n s) (s .pre .0)
 
   fC-is : toZ w32 (ofZ w32 (at (s .args .fc .now) (n s))) -ℤ pos (2 ^ 27) ≡ fC (N s) (n s)
   fC-is =
       ap (λ (z : ℤ). z -ℤ pos (2 ^ 27)) (toZ-ofZ {w = w32} {z = at (s .args .fc .now) (n s)} (record { sfits = c .turn-more-arg2 .given }) ∙ ap (λ (l : List ℤ). at l (n s)) (s .pre .3))
-      ∙ lifted-at fC (N s) (n s) (s .pre .0)
+      ∙ cosines-at fC (N s) (n s) (s .pre .0)
 
 turn-more-requires : tie.Need-turn-more-requires
 turn-more-requires c κs =

@@ -1,4 +1,4 @@
--- `turn_less` meets its contract: the products of the lifted numbers stay below 2^56, and their difference, lowered, is that of the products asked for.
+-- `turn_less` meets its contract: the products of the lifted numbers stay below 2^56, and their difference, without-lifts, is that of the products asked for.
 use mathlib.Core.Path.{_≡_, _∙_}
 use Prim.Native.Nat.{ℕ, _*_, _^_, _≤_}
 use native.Mathlib.Nat.{mul-le-mul}
@@ -67,41 +67,41 @@ module _ (c : tie.After-plain2) where
   second≤ : b * d ≤ 2 ^ 55
   second≤ = mul-le-mul (c .before .before .up2 .ensures .1) (c .plain2 .ensures .1)
 
-mul-lowered : tie.Need-mul-lowered
-mul-lowered c = record { fits = omega (arith, first≤ c) }
+mul-without-lifts : tie.Need-mul-without-lifts
+mul-without-lifts c = record { fits = omega (arith, first≤ c) }
 
-cast-lowered : tie.Need-cast-lowered
-cast-lowered c = record { sfits = omega (arith, first≤ c) }
+cast-without-lifts : tie.Need-cast-without-lifts
+cast-without-lifts c = record { sfits = omega (arith, first≤ c) }
 
-mul-lowered-2 : tie.Need-mul-lowered-2
-mul-lowered-2 c = record { fits = omega (arith, second≤ c) }
+mul-without-lifts-2 : tie.Need-mul-without-lifts-2
+mul-without-lifts-2 c = record { fits = omega (arith, second≤ c) }
 
-cast-lowered-2 : tie.Need-cast-lowered-2
-cast-lowered-2 c = record { sfits = omega (arith, second≤ c) }
+cast-without-lifts-2 : tie.Need-cast-without-lifts-2
+cast-without-lifts-2 c = record { sfits = omega (arith, second≤ c) }
 
-sub-lowered : tie.Need-sub-lowered
-sub-lowered c = read-fits (a c * k c) (b c * d c) (2 ^ 55) (first≤ c) (second≤ c) (lit≤ tt)
+sub-without-lifts : tie.Need-sub-without-lifts
+sub-without-lifts c = read-fits (a c * k c) (b c * d c) (2 ^ 55) (first≤ c) (second≤ c) (lit≤ tt)
 
-cast-lowered-3 : tie.Need-cast-lowered-3
-cast-lowered-3 c = search needs
+cast-without-lifts-3 : tie.Need-cast-without-lifts-3
+cast-without-lifts-3 c = search needs
 
-cast-lowered-4 : tie.Need-cast-lowered-4
-cast-lowered-4 c = search needs
+cast-without-lifts-4 : tie.Need-cast-without-lifts-4
+cast-without-lifts-4 c = search needs
 
-sub-lowered-2 : tie.Need-sub-lowered-2
-sub-lowered-2 c = read-fits (a c) (b c) (2 ^ 27) (c .before .before .before .up .ensures .1) (c .before .before .up2 .ensures .1) (lit≤ tt)
+sub-without-lifts-2 : tie.Need-sub-without-lifts-2
+sub-without-lifts-2 c = read-fits (a c) (b c) (2 ^ 27) (c .before .before .before .up .ensures .1) (c .before .before .up2 .ensures .1) (lit≤ tt)
 
-cast-lowered-5 : tie.Need-cast-lowered-5
-cast-lowered-5 c = search needs
+cast-without-lifts-5 : tie.Need-cast-without-lifts-5
+cast-without-lifts-5 c = search needs
 
-cast-lowered-6 : tie.Need-cast-lowered-6
-cast-lowered-6 c = search needs
+cast-without-lifts-6 : tie.Need-cast-without-lifts-6
+cast-without-lifts-6 c = search needs
 
-sub-lowered-3 : tie.Need-sub-lowered-3
-sub-lowered-3 c = read-fits (k c) (d c) (2 ^ 28) (c .before .plain .ensures .1) (c .plain2 .ensures .1) (lit≤ tt)
+sub-without-lifts-3 : tie.Need-sub-without-lifts-3
+sub-without-lifts-3 c = read-fits (k c) (d c) (2 ^ 28) (c .before .plain .ensures .1) (c .plain2 .ensures .1) (lit≤ tt)
 
-lowered-requires : tie.Need-lowered-requires
-lowered-requires c κs = (
+without-lifts-requires : tie.Need-without-lifts-requires
+without-lifts-requires c κs = (
   omega (arith, back-small (a c * k c) (b c * d c) (2 ^ 55) (first≤ c) (second≤ c) (lit≤ tt)),
   omega (arith, back-small (a c) (b c) (2 ^ 27) (c .before .before .before .up .ensures .1) (c .before .before .up2 .ensures .1) (lit≤ tt)),
   omega (arith, back-small (k c) (d c) (2 ^ 28) (c .before .plain .ensures .1) (c .plain2 .ensures .1) (lit≤ tt)),
@@ -115,8 +115,8 @@ returns c =
     let b-is : pos (b l) ≡ g .f +ℤ pos (2 ^ 26) = l .before .before .up2 .ensures .0 ∙ rw (toZ-ofZ (s l .fits .f)) in
     let k-is : pos (k l) ≡ g .p = l .before .plain .ensures .0 ∙ toZ-ofZ (s l .fits .p) in
     let d-is : pos (d l) ≡ g .q = l .plain2 .ensures .0 ∙ toZ-ofZ (s l .fits .q) in
-    rw (toZ-ofZ {w = w64} {z = c .lowered .result} (record { sfits = c .lowered .ok }))
-    (c .lowered .ensures .0
+    rw (toZ-ofZ {w = w64} {z = c .without-lifts .result} (record { sfits = c .without-lifts .ok }))
+    (c .without-lifts .ensures .0
     ∙ rw (
       back (a l * k l) (b l * d l) (2 ^ 55) (first≤ l) (second≤ l) (lit≤ tt),
       back (a l) (b l) (2 ^ 27) (l .before .before .before .up .ensures .1) (l .before .before .up2 .ensures .1) (lit≤ tt),
@@ -132,16 +132,16 @@ turn-less-spec =
     up-requires-2
     plain-requires
     plain-requires-2
-    mul-lowered
-    cast-lowered
-    mul-lowered-2
-    cast-lowered-2
-    sub-lowered
-    cast-lowered-3
-    cast-lowered-4
-    sub-lowered-2
-    cast-lowered-5
-    cast-lowered-6
-    sub-lowered-3
-    lowered-requires
+    mul-without-lifts
+    cast-without-lifts
+    mul-without-lifts-2
+    cast-without-lifts-2
+    sub-without-lifts
+    cast-without-lifts-3
+    cast-without-lifts-4
+    sub-without-lifts-2
+    cast-without-lifts-5
+    cast-without-lifts-6
+    sub-without-lifts-3
+    without-lifts-requires
     returns)

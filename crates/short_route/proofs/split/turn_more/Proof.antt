@@ -1,4 +1,4 @@
--- `turn_more` meets its contract: the products of the lifted numbers make at most 2^56, and their sum, lowered, is that of the products asked for.
+-- `turn_more` meets its contract: the products of the lifted numbers make at most 2^56, and their sum, without-lifts, is that of the products asked for.
 use mathlib.Core.Path.{_≡_, ap, _∙_}
 use Prim.Native.Nat.{ℕ, _+_, _*_, _^_, _≤_}
 use native.Mathlib.Nat.{mul-le-mul}
@@ -63,39 +63,39 @@ module _ (c : tie.After-plain2) where
   plains-is : toZ w64 (k + d) ≡ pos (k + d)
   plains-is = toZ-pos w64 {n = k + d} (omega (arith, plains≤))
 
-mul-lowered : tie.Need-mul-lowered
-mul-lowered c = record { fits = omega (arith, first≤ c) }
+mul-without-lifts : tie.Need-mul-without-lifts
+mul-without-lifts c = record { fits = omega (arith, first≤ c) }
 
-mul-lowered-2 : tie.Need-mul-lowered-2
-mul-lowered-2 c = record { fits = omega (arith, second≤ c) }
+mul-without-lifts-2 : tie.Need-mul-without-lifts-2
+mul-without-lifts-2 c = record { fits = omega (arith, second≤ c) }
 
-add-lowered : tie.Need-add-lowered
-add-lowered c = record { fits = omega (arith, first≤ c, second≤ c) }
+add-without-lifts : tie.Need-add-without-lifts
+add-without-lifts c = record { fits = omega (arith, first≤ c, second≤ c) }
 
-cast-lowered : tie.Need-cast-lowered
-cast-lowered c = record { sfits = omega (arith, first≤ c, second≤ c) }
+cast-without-lifts : tie.Need-cast-without-lifts
+cast-without-lifts c = record { sfits = omega (arith, first≤ c, second≤ c) }
 
-add-lowered-2 : tie.Need-add-lowered-2
-add-lowered-2 c = search needs
+add-without-lifts-2 : tie.Need-add-without-lifts-2
+add-without-lifts-2 c = search needs
 
-cast-lowered-2 : tie.Need-cast-lowered-2
-cast-lowered-2 c = search needs
+cast-without-lifts-2 : tie.Need-cast-without-lifts-2
+cast-without-lifts-2 c = search needs
 
-add-lowered-3 : tie.Need-add-lowered-3
-add-lowered-3 c = search needs
+add-without-lifts-3 : tie.Need-add-without-lifts-3
+add-without-lifts-3 c = search needs
 
-cast-lowered-3 : tie.Need-cast-lowered-3
-cast-lowered-3 c = search needs
+cast-without-lifts-3 : tie.Need-cast-without-lifts-3
+cast-without-lifts-3 c = search needs
 
-lowered-requires : tie.Need-lowered-requires
-lowered-requires c κs = rw (products-is c, lifts-is c, plains-is c) (omega (arith, first≤ c, second≤ c), lifts≤ c, plains≤ c)
+without-lifts-requires : tie.Need-without-lifts-requires
+without-lifts-requires c κs = rw (products-is c, lifts-is c, plains-is c) (omega (arith, first≤ c, second≤ c), lifts≤ c, plains≤ c)
 
-module _ (c : tie.After-lowered) where
-  total-fits : SFits w64 (c .lowered .result +ℤ pos (2 ^ 54))
-  total-fits = sfits-abs (c .lowered .result +ℤ pos (2 ^ 54)) (omega (arith, abs-add (c .lowered .result) (pos (2 ^ 54)), c .lowered .ensures .1))
+module _ (c : tie.After-without-lifts) where
+  total-fits : SFits w64 (c .without-lifts .result +ℤ pos (2 ^ 54))
+  total-fits = sfits-abs (c .without-lifts .result +ℤ pos (2 ^ 54)) (omega (arith, abs-add (c .without-lifts .result) (pos (2 ^ 54)), c .without-lifts .ensures .1))
 
-  is : toZ w64 (ofZ w64 (c .lowered .result)) ≡ c .lowered .result
-  is = toZ-ofZ {w = w64} {z = c .lowered .result} (record { sfits = c .lowered .ok })
+  is : toZ w64 (ofZ w64 (c .without-lifts .result)) ≡ c .without-lifts .result
+  is = toZ-ofZ {w = w64} {z = c .without-lifts .result} (record { sfits = c .without-lifts .ok })
 
 add-result : tie.Need-add-result
 add-result c = rw (is c) (total-fits c)
@@ -109,7 +109,7 @@ returns c =
     let k-is : pos (k l) ≡ g .p = l .before .plain .ensures .0 ∙ toZ-ofZ (s l .fits .p) in
     let d-is : pos (d l) ≡ g .q = l .plain2 .ensures .0 ∙ toZ-ofZ (s l .fits .q) in
     rw (is c, toZ-ofZ (total-fits c))
-    (ap (λ (z : ℤ). z +ℤ pos (2 ^ 54)) (c .lowered .ensures .0)
+    (ap (λ (z : ℤ). z +ℤ pos (2 ^ 54)) (c .without-lifts .ensures .0)
     ∙ rw (products-is l, lifts-is l, plains-is l) (turned-more (g .e) (g .f) (g .p) (g .q) (a l) (b l) (k l) (d l) a-is b-is k-is d-is))
 
 pub turn-more-spec : {M : Type 1} → statement M
@@ -120,14 +120,14 @@ turn-more-spec =
     up-requires-2
     plain-requires
     plain-requires-2
-    mul-lowered
-    mul-lowered-2
-    add-lowered
-    cast-lowered
-    add-lowered-2
-    cast-lowered-2
-    add-lowered-3
-    cast-lowered-3
-    lowered-requires
+    mul-without-lifts
+    mul-without-lifts-2
+    add-without-lifts
+    cast-without-lifts
+    add-without-lifts-2
+    cast-without-lifts-2
+    add-without-lifts-3
+    cast-without-lifts-3
+    without-lifts-requires
     add-result
     returns)

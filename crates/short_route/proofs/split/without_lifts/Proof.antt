@@ -1,4 +1,4 @@
--- `lowered` meets its contract: what is taken out stays below 2^56 each time.
+-- `without_lifts` meets its contract: what is taken out stays below 2^56 each time.
 use mathlib.Core.Path.{refl}
 use Prim.Native.Nat.{_*_, _^_, _≤_}
 use native.Mathlib.Nat.{le-refl}
@@ -8,8 +8,8 @@ use mir.Syntax.{w64}
 use mir.Val.{SFits}
 use mir.Facts.{toZ-ofZ}
 use Rattle.arithmetic.specs.OrderLaws.{sfits-abs, abs-sub, abs-mul-le}
-use Rattle.short_route.proofs.split.lowered.Statement.{statement}
-use Rattle.short_route.proofs.split.lowered.Tie as tie
+use Rattle.short_route.proofs.split.without_lifts.Statement.{statement}
+use Rattle.short_route.proofs.split.without_lifts.Tie as tie
 
 module _ (c : tie.Start) where
   abbrev first : ℤ
@@ -60,6 +60,6 @@ returns c =
     rw (toZ-ofZ (c .fits .s), toZ-ofZ (c .fits .u), toZ-ofZ (first-fits c), toZ-ofZ (less-fits c), toZ-ofZ (c .fits .v), toZ-ofZ (second-fits c), toZ-ofZ (total-fits c))
     (refl, total-abs c)
 
-pub lowered-spec : {M : Type 1} → statement M
-lowered-spec =
+pub without-lifts-spec : {M : Type 1} → statement M
+without-lifts-spec =
     tie.close (tie.spec mul-result sub-result mul-result-2 sub-result-2 returns)
