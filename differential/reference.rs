@@ -256,11 +256,11 @@ impl Bank {
     }
 
     pub fn stream_fresh(&self, n: usize, state: &mut [i64]) -> u32 {
-        if state.len() != STATE {
-            return 2;
-        }
         if !tabled(n) {
             return 1;
+        }
+        if state.len() != STATE {
+            return 2;
         }
         state.fill(0);
         state[0] = n as i64;

@@ -16,10 +16,12 @@
  * holds what is said below, the others hold what they held. No call keeps anything between calls, or reads or writes anything but its
  * arguments, so calls on different buffers may run at the same time.
  *
- * These are promises for every value of every argument, under what C cannot check: each pointer is not null, is aligned, and points to
- * as many entries as the length that follows it says; the buffers of one call do not overlap; nothing else writes to them, or reads
- * what is being written, until the call returns. The numbers returned, and what each buffer then holds, are the contracts of
- * crates/c_face/src/lib.rt, which are proved; the distance of returned sound is a theorem of crates/demands over the same definitions.
+ * These are promises for every value of every argument, under what C cannot check: each pointer is not null, also where its length is 0, is
+ * aligned, and points to as many entries as the length that follows it says; the buffers of one call do not overlap; nothing else writes to
+ * them, or reads what is being written, until the call returns. A size is without a sign: a negative number handed in for one arrives as a
+ * huge size, and is refused as such. The numbers returned, and what each buffer then holds, are the contracts of crates/c_face/src/lib.rt,
+ * which are proved; what is said of chains of states and of the distance of returned sound are theorems of crates/demands over the same
+ * definitions.
  */
 #ifndef DAPPLESCREE_H
 #define DAPPLESCREE_H
@@ -51,8 +53,8 @@ uint32_t dapplescree_analyse_short(size_t n, const int16_t *samples, size_t samp
                                    size_t coefficients_length);
 
 /* Makes a fresh stream.
- *   2  state_length is not DAPPLESCREE_STATE
  *   1  n is not tabled
+ *   2  state_length is not DAPPLESCREE_STATE
  *   0  state[0] is N and every other entry is 0
  */
 uint32_t dapplescree_stream_fresh(size_t n, int64_t *state, size_t state_length);

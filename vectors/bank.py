@@ -184,10 +184,12 @@ STATE = 1 + STORAGE
 
 
 def stream_fresh(N, state):
+    number, stream = fresh(N)
+    if number:
+        return number, state
     if len(state) != STATE:
         return 2, state
-    number, stream = fresh(N)
-    return (number, state) if number else (0, [stream[0]] + stream[1])
+    return 0, [stream[0]] + stream[1]
 
 
 def stream_step(state, X, length):

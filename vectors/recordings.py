@@ -104,15 +104,7 @@ def synthesised(N, B, c, out):
 
 def viewed(N, B, out):
     part = inner(N, B, out)[1]
-    line("view", N, B, len(part), *shown(part))
-
-
-def overwritten(N, B, out):
-    start, part = inner(N, B, out)
     line("inner", N, B, len(part), *shown(part))
-    out = out[:start] + [MARK] * len(part) + out[start + len(part) :]
-    line("buffer", *shown(out))
-    return out
 
 
 def compared(N, B, later, out):
@@ -122,10 +114,11 @@ def compared(N, B, later, out):
 
 
 def back(N, B, later, c, out):
+    """What is there afterwards has marks from the second hop on: what the next call writes is seen."""
     out = synthesised(N, B, c, out)
-    viewed(N, B, out)
     compared(N, B, later, out)
-    return overwritten(N, B, out)
+    viewed(N, B, out)
+    return out[: N // 2] + [MARK] * (len(out) - N // 2)
 
 
 def recorded(route, N, B, span):
@@ -154,9 +147,7 @@ def play(N, B, c, l, m):
 
 
 def part(N, B, l):
-    out = noise(SMALL, 5, 32768)[:l]
-    viewed(N, B, out)
-    overwritten(N, B, out)
+    viewed(N, B, noise(SMALL, 5, 32768)[:l])
 
 
 def wrong_lengths(N, B, l, m):

@@ -3,7 +3,7 @@
 use mathlib.Core.Bool.{cond}
 use Prim.Native.Nat.{ℕ, _/_}
 use lib.IntN.{ℤ, pos, negsuc, _+ℤ_}
-use lib.Signed.{ltZ}
+use lib.Signed.{ltZ, _≤ℤ_}
 
 -- the floor of a/b: the largest whole number that is at most a/b, for b above 0. negsuc a stands for -(a + 1)
 unfoldable pub floor : ℤ → ℕ → ℤ
@@ -20,6 +20,11 @@ least = negsuc 32767
 
 abbrev pub largest : ℤ
 largest = pos 32767
+
+-- s is a sample: -32,768 .. 32,767
+pub record Sample (s : ℤ) : Type 0 where
+  pub low : least ≤ℤ s
+  pub high : s ≤ℤ largest
 
 -- z clamped to -32,768 .. 32,767
 unfoldable pub clamp : ℤ → ℤ

@@ -7,7 +7,7 @@ use native.Mathlib.Nat.{div-le-self, div-add-mod, mod-lt, mul-le-mul-left, mul-p
 use native.Mathlib.Omega.{arith, by-contra}
 use lib.IntN.{ℤ, pos, negsuc, natAbs, _+ℤ_, _-ℤ_, _*ℤ_}
 use lib.Signed.{_≤ℤ_, _<ℤ_, shrZ, ltZ, ≤ℤ-refl}
-use Rattle.arithmetic.specs.Rounding.{floor, rnd, clamp, least, largest}
+use Rattle.arithmetic.specs.Rounding.{floor, rnd, clamp, least, largest, Sample}
 use Rattle.arithmetic.specs.IntegerLaws.{ints, posints, zarith}
 use Rattle.arithmetic.specs.OrderLaws.{bounds, mul-le, <ℤ-≤ℤ, ≤ℤ-antisym, abs-mul, abs-is, ltZ-true, ltZ-false}
 
@@ -108,11 +108,6 @@ pub rnd-le : (a : ℤ) {b n : ℕ} → 0 < b → natAbs a ≤ b * n → natAbs (
 rnd-le a {b} {n} p h = by-contra (natAbs (rnd a b)) n (λ q. omega (arith, rnd-abs a p, mul-le-mul-left b q))
 
 -- ---- clamp
--- s is a sample
-pub record Sample (s : ℤ) : Type 0 where
-  pub low : least ≤ℤ s
-  pub high : s ≤ℤ largest
-
 pub sample-abs : {s : ℤ} → Sample s → natAbs s ≤ 32768
 sample-abs {s} S = simp bounds (omega (arith, simp ints at (S .low), simp ints at (S .high)))
 

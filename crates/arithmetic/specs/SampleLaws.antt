@@ -6,10 +6,10 @@ use native.Mathlib.Nat.{div-add-mod, mod-lt}
 use native.Mathlib.Omega.{arith}
 use lib.IntN.{ℤ, pos, negsuc, negℤ, natAbs, _+ℤ_, _-ℤ_}
 use lib.Signed.{_≤ℤ_, _<ℤ_, ltZ, clashℤ, ≤ℤ-refl}
-use Rattle.arithmetic.specs.Rounding.{floor, clamp, least, largest}
+use Rattle.arithmetic.specs.Rounding.{floor, clamp, least, largest, Sample}
 use Rattle.arithmetic.specs.IntegerLaws.{ints, posints}
 use Rattle.arithmetic.specs.OrderLaws.{ltZ-true, ltZ-false, mul-le}
-use Rattle.arithmetic.specs.RoundingLaws.{floor-is, floor-unique, Sample, by-range}
+use Rattle.arithmetic.specs.RoundingLaws.{floor-is, floor-unique, by-range}
 
 -- z limited to low .. high
 unfoldable pub limited : ℤ → ℤ → ℤ → ℤ

@@ -7,9 +7,8 @@ use native.Mathlib.Omega.{arith}
 use native.Mathlib.Decide.{ℕ-discrete}
 use native.Mathlib.Numerals.{add-one}
 use lib.IntN.{ℤ, pos, negℤ, natAbs, _+ℤ_, _-ℤ_, _*ℤ_, +ℤ-comm, +ℤ-idl, +ℤ-idr}
-use lib.Signed.{_≤ℤ_}
 use Rattle.arithmetic.specs.Sums.{sum, sumℕ}
-use Rattle.arithmetic.specs.IntegerLaws.{ints, le-ℕ}
+use Rattle.arithmetic.specs.IntegerLaws.{ints}
 use Rattle.arithmetic.specs.OrderLaws.{abs-add}
 
 pub sum-zero : (f : ℕ → ℤ) → sum zero f ≡ pos 0
@@ -50,11 +49,6 @@ pub sum-head : (n : ℕ) (f : ℕ → ℤ) → sum (suc n) f ≡ f 0 +ℤ sum n 
 unfolding sum
 sum-head zero f = simp ints (omega arith)
 sum-head (suc n) f = ap (λ (x : ℤ). x +ℤ f (suc n)) (sum-head n f) ∙ simp ints (omega arith)
-
-pub sum-le : (n : ℕ) (f g : ℕ → ℤ) → ((i : ℕ) → i < n → f i ≤ℤ g i) → sum n f ≤ℤ sum n g
-unfolding sum
-sum-le zero f g h = simp ints (omega arith)
-sum-le (suc n) f g h = simp ints (omega (arith, le-ℕ (sum-le n f g (λ i p. h i (omega arith))), le-ℕ (h n (le-refl (suc n)))))
 
 pub sum-abs : (n : ℕ) (f : ℕ → ℤ) (B : ℕ) → ((i : ℕ) → i < n → natAbs (f i) ≤ B) → natAbs (sum n f) ≤ n * B
 unfolding sum
@@ -100,12 +94,6 @@ sum-one (suc n) k f h z = by (ℕ-discrete k n) (λ p. sum-one n k f p (λ i q. 
 -- one term more, as a loop's step has it
 pub sum-next : (n : ℕ) (f : ℕ → ℤ) → sum (n + 1) f ≡ sum n f +ℤ f n
 sum-next n f = rw add-one (sum-suc n f)
-
--- ---- bounds
-pub sum-tri : (n : ℕ) (f : ℕ → ℤ) → natAbs (sum n f) ≤ sumℕ n (λ i. natAbs (f i))
-unfolding sum sumℕ
-sum-tri zero f = omega arith
-sum-tri (suc n) f = omega (arith, abs-add (sum n f) (f n), sum-tri n f)
 
 -- terms of weights w, as x i *ℤ t i is of |t i| where every |x i| ≤ B
 pub sum-weighed : (n B : ℕ) (f : ℕ → ℤ) (w : ℕ → ℕ) → ((i : ℕ) → i < n → natAbs (f i) ≤ B * w i) → natAbs (sum n f) ≤ B * sumℕ n w

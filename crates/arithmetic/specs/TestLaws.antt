@@ -12,6 +12,18 @@ use lib.IntN.{ℤ, pos, negsuc}
 use lib.ListN.{length, getD}
 use Rattle.arithmetic.specs.Lists.{all, every}
 
+-- a test as a fact, and the other way
+pub is-T : {b : Bool} → b ≡ true → T b
+is-T e = rw e tt
+
+pub is-true : {b : Bool} → T b → b ≡ true
+is-true {b = true} t = refl
+is-true {b = false} t = absurd t
+
+pub is-false : {b : Bool} → ¬ T b → b ≡ false
+is-false {b = true} n = absurd (n tt)
+is-false {b = false} n = refl
+
 -- both of two tests
 pub both-left : (a b : Bool) → T (cond a b false) → T a
 both-left true b t = tt

@@ -1,18 +1,28 @@
 // Rounding and clamping of signed sums. The laws of whole numbers that every other crate cites are in specs/.
-// No function here is a public call: `transform`, `short_route`, `stream` and `listing` call them, each under its requires.
+// No function here is a public call: `transform`, `split`, `stream` and `text` call them, each under its requires.
 ghost use mathlib.Core.Path.{_≡_};
 ghost use Prim.Native.Nat.{_≤_, _<_, _*_, _^_};
 ghost use lib.IntN.{pos, negℤ, natAbs};
-ghost use lib.Signed.{_≤ℤ_, _<ℤ_};
+ghost use lib.Signed.{_≤ℤ_, _<ℤ_, shrZ};
+ghost use mir.Syntax.{w64};
+ghost use mir.Val.{SFits};
 ghost use Rattle.arithmetic.specs.Rounding.{floor, rnd, clamp};
 ghost use Rattle.arithmetic.specs.SampleLaws.{limited};
+
+// The floor of a / 2^k, which fits.
+fn shifted(a: i64, k: u32) -> i64
+    requires { ⌜ (k < 64) × SFits w64 (shrZ a (2 ^ k)) ⌝ }
+    ensures { λ r. ⌜ r ≡ shrZ a (2 ^ k) ⌝ }
+{
+    a >> k
+}
 
 // rnd(a / 2^k): the half is added, and the shift takes the floor.
 pub fn rnd_shift(a: i64, k: u32) -> i64
     requires { ⌜ (2 ≤ k) × (k < 63) × (natAbs a ≤ 2 ^ 62) ⌝ }
     ensures { λ r. ⌜ r ≡ rnd a (2 ^ k) ⌝ }
 {
-    (a + (1i64 << (k - 1))) >> k
+    shifted(a + (1i64 << (k - 1)), k)
 }
 
 // b, limited to least..=most.

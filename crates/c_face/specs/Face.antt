@@ -1,6 +1,6 @@
 -- What the calls for C answer: definitions. A state is a list of whole numbers, N and then the tail. Document 01, 'Synthesis stream' and 'When the bank declines'.
 use mathlib.Core.Bool.{cond}
-use mathlib.Core.List.{List, _∷_, _++_}
+use mathlib.Core.List.{List, [], _∷_, _++_}
 use Prim.Native.Nat.{ℕ, _+_}
 use lib.Dec.{eqb}
 use lib.ListN.{length, take, drop, replicate}
@@ -11,7 +11,8 @@ use Rattle.cosine.specs.Kernels.{tabled}
 use Rattle.stream.specs.declared.Stream.{Stream}
 use Rattle.stream.specs.Synthesis.{storage}
 use Rattle.stream.specs.Steps.{next}
-use Rattle.filter_bank.specs.Streams as S
+use Rattle.checks.specs.Causes.{Cause, _unless_, firstCause}
+use Rattle.stream_calls.specs.Streams as S
 
 -- entries of a state
 abbrev pub entries : ℕ
@@ -25,16 +26,25 @@ lengthIn z = cond (ltZ z (pos 0)) 0 (natAbs z)
 unfoldable pub streamIn : List ℤ → Stream
 streamIn state = record { n = lengthIn (at state 0); tail = drop 1 state }
 
--- `fresh`: 2 for a state of another length, then 1; taken, N and a tail of zeros
+-- `fresh`: N is not tabled, then the state's length is another. Taken, the state is N and a tail of zeros
+unfoldable pub freshCauses : ℕ → List ℤ → List Cause
+freshCauses N state =
+    1 unless tabled N
+    ∷ 2 unless eqb (length state) entries
+    ∷ []
+
 unfoldable pub freshCode : ℕ → List ℤ → ℕ
-freshCode N state = cond (eqb (length state) entries) (cond (tabled N) 0 1) 2
+freshCode N state = firstCause (freshCauses N state)
 
 unfoldable pub freshState : ℕ → List ℤ → List ℤ
 freshState N state = cond (eqb (freshCode N state) 0) (pos N ∷ replicate storage (pos 0)) state
 
--- `step`: 2 for a state of another length, then what the bank's `step` returns on the stream that the state holds
+-- `step`: the state's length is another, then the causes of the bank's `step` on the stream that the state holds
+unfoldable pub stepCauses : List ℤ → List ℤ → List ℤ → List Cause
+stepCauses state x out = 2 unless eqb (length state) entries ∷ S.stepCauses (streamIn state) x out
+
 unfoldable pub stepCode : List ℤ → List ℤ → List ℤ → ℕ
-stepCode state x out = cond (eqb (length state) entries) (S.stepCode (streamIn state) x out) 2
+stepCode state x out = firstCause (stepCauses state x out)
 
 -- what the state then holds: taken, entry 0 as it was and the new tail
 unfoldable pub stepState : List ℤ → List ℤ → List ℤ → List ℤ

@@ -7,8 +7,8 @@ use native.Mathlib.Nat.{not-suc-le-zero}
 use native.Mathlib.Omega.{arith}
 use borrow.Author.Tests.{eq-eqb, ne-eqb}
 use borrow.Rule.Slice.PartMut.{putMid}
-use lib.Dec.{T, eqb}
-use lib.ListN.{length, length-drop, take, drop, set, drop-of-length-le, take-append-drop}
+use lib.Dec.{eqb}
+use lib.ListN.{length, length-drop, take, drop, set, replicate, drop-of-length-le, take-append-drop}
 use lib.Seq.{ext-getD}
 use lib.IntN.{ℤ, pos}
 use Rattle.arithmetic.specs.Lists.{at, table}
@@ -16,9 +16,11 @@ use Rattle.arithmetic.specs.ListLaws.{length-table, getD-table}
 use Rattle.cosine.specs.Kernels.{tabled}
 use Rattle.stream.specs.Synthesis as Stream
 use Rattle.stream.specs.Steps.{next}
-use Rattle.filter_bank.specs.Streams as S
-use Rattle.filter_bank.specs.StreamLaws.{place-code, place-out}
-use Rattle.c_face.specs.Face.{entries, lengthIn, streamIn, freshCode, freshState, stepCode, stepState, stepOut}
+use Rattle.checks.specs.Causes.{firstCause, First}
+use Rattle.checks.specs.CauseLaws.{first-is, leaves}
+use Rattle.stream_calls.specs.Streams as S
+use Rattle.stream_calls.specs.StreamLaws.{place-code, place-out}
+use Rattle.c_face.specs.Face.{entries, lengthIn, streamIn, freshCauses, freshCode, freshState, stepCauses, stepCode, stepState, stepOut}
 
 -- a list is the table of its entries
 pub table-at : (xs : List ℤ) (m : ℕ) → length xs ≡ m → table m (at xs) ≡ xs
@@ -37,47 +39,35 @@ pub set-first : (xs ys : List ℤ) (v : ℤ) → 1 ≤ length xs → set (take 1
 set-first [] ys v h = absurd (not-suc-le-zero h)
 set-first (x ∷ xs) ys v h = refl
 
--- ---- `fresh`: the number by its causes, and what follows from it
-module _ (N : ℕ) (state : List ℤ) where
-  pub fresh-2 : ¬ (length state ≡ entries) → (2 ≡ freshCode N state) × (state ≡ freshState N state)
+-- ---- `fresh`: what the bank's answer tells of N, and the answer by its causes
+module _ (N : ℕ) where
+  pub bank-refuses : ¬ ((S.fresh N) .code ≡ 0) → (tabled N ≡ false) × ((S.fresh N) .code ≡ 1)
+  unfolding S.fresh
+  bank-refuses n = by-test (tabled N) refl
+    where
+      by-test : (b : Bool) → tabled N ≡ b → (tabled N ≡ false) × ((S.fresh N) .code ≡ 1)
+      by-test true e = absurd (n (rw e))
+      by-test false e = (e, rw e)
+
+  pub bank-takes : (S.fresh N) .code ≡ 0 → (tabled N ≡ true) × ((S.fresh N) .stream .tail ≡ replicate Stream.storage (pos 0))
+  unfolding S.fresh Stream.fresh
+  bank-takes z = by-test (tabled N) refl
+    where
+      by-test : (b : Bool) → tabled N ≡ b → (tabled N ≡ true) × ((S.fresh N) .stream .tail ≡ replicate Stream.storage (pos 0))
+      by-test true e = (e, rw e)
+      by-test false e = let h : _≡_ {A = ℕ} 1 0 = rw e at z in absurd (omega arith)
+
+  -- for k = 0 N and a tail of zeros, for every other k what the state held
+  pub fresh-answer : (state : List ℤ) {k : ℕ} → First (freshCauses N state) k →
+      (k ≡ freshCode N state) × (cond (eqb k 0) (pos N ∷ replicate Stream.storage (pos 0)) state ≡ freshState N state)
   unfolding freshCode freshState
-  fresh-2 a = (rw (ne-eqb (length state) entries a), rw (ne-eqb (length state) entries a))
-
-  -- the bank's answer is the call's
-  module _ (a : length state ≡ entries) where
-    pub fresh-code : (S.fresh N) .code ≡ freshCode N state
-    unfolding S.fresh freshCode
-    fresh-code = by-test (tabled N) refl
-      where
-        by-test : (b : Bool) → tabled N ≡ b → (S.fresh N) .code ≡ freshCode N state
-        by-test true e = rw (eq-eqb (length state) entries a, e)
-        by-test false e = rw (eq-eqb (length state) entries a, e)
-
-    pub fresh-kept : ¬ ((S.fresh N) .code ≡ 0) → state ≡ freshState N state
-    unfolding freshState
-    fresh-kept n = rw (sym fresh-code, ne-eqb ((S.fresh N) .code) 0 n)
-
-    pub fresh-tabled : (S.fresh N) .code ≡ 0 → T (tabled N)
-    unfolding S.fresh
-    fresh-tabled z = by-test (tabled N) refl
-      where
-        by-test : (b : Bool) → tabled N ≡ b → T (tabled N)
-        by-test true e = rw e tt
-        by-test false e = let h : _≡_ {A = ℕ} 1 0 = rw e at z in absurd (omega arith)
-
-    pub fresh-next : (S.fresh N) .code ≡ 0 → pos N ∷ (S.fresh N) .stream .tail ≡ freshState N state
-    unfolding freshState S.fresh Stream.fresh
-    fresh-next z = let e : tabled N ≡ true = true-of (fresh-tabled z) in rw (sym fresh-code, z, e)
-      where
-        true-of : {b : Bool} → T b → b ≡ true
-        true-of {b = true} t = refl
-        true-of {b = false} t = absurd t
+  fresh-answer state f = let cs = freshCauses N state in (sym (first-is cs f), leaves cs (pos N ∷ replicate Stream.storage (pos 0)) state f)
 
 -- ---- `step`: the number by its causes, and what follows from it
 module _ (state x out : List ℤ) where
-  pub step-2 : ¬ (length state ≡ entries) → (2 ≡ stepCode state x out) × (state ≡ stepState state x out) × (out ≡ stepOut state x out)
-  unfolding stepCode stepState stepOut
-  step-2 a = (rw (ne-eqb (length state) entries a), rw (ne-eqb (length state) entries a), rw (ne-eqb (length state) entries a))
+  pub step-2 : ¬ (length state ≡ entries) → (2 ≡ stepCode state x out) × ((state ≡ stepState state x out) × (out ≡ stepOut state x out))
+  unfolding firstCause stepCauses stepCode stepState stepOut
+  step-2 a = let e = ne-eqb (length state) entries a in (rw e, (rw e, rw e))
 
   -- what the bank answers in place, on the part behind entry 0, is the call's answer
   module _ (a : length state ≡ entries) where
@@ -91,7 +81,7 @@ module _ (state x out : List ℤ) where
     rest = omega (arith, length-drop 1 state, a)
 
     pub step-code : S.placeCode N tail x out ≡ stepCode state x out
-    unfolding stepCode streamIn
+    unfolding firstCause stepCauses stepCode S.stepCode streamIn
     step-code = rw (eq-eqb (length state) entries a) (place-code N tail x out rest)
 
     pub step-out : S.placeOut N tail x out ≡ stepOut state x out

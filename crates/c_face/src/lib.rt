@@ -2,12 +2,12 @@
 // No call has a requires: any numbers and any lengths may be handed in. include/dapplescree.h says the same in C's words.
 ghost use mathlib.Core.Path.{_≡_};
 ghost use lib.ListN.{length};
-ghost use Rattle.recording.specs.declared.Route.the-variants.{Direct, Short};
+ghost use Rattle.analysis.specs.declared.Route.the-variants.{Direct, Short};
 ghost use Rattle.stream.specs.Synthesis.{storage};
-ghost use Rattle.filter_bank.specs.Analysis.{analyseCode, analyseOut};
-ghost use Rattle.filter_bank.specs.Recordings.{recordedCode, recordedOut, playedCode, playedOut};
+ghost use Rattle.block_calls.specs.Analysis.{analyseCode, analyseOut};
+ghost use Rattle.recording_calls.specs.Recordings.{recordedCode, recordedOut, playedCode, playedOut};
 ghost use Rattle.c_face.specs.Face.{lengthIn, freshCode, freshState, stepCode, stepState, stepOut};
-use recording::Route;
+use analysis::Route;
 
 // Entries of a state.
 const ENTRIES: usize = 1 + stream::STORAGE;
@@ -19,7 +19,8 @@ pub extern "C" fn dapplescree_analyse_direct(
     samples: &[i16],
     coefficients: &mut [i32],
 ) -> u32
-    ensures { λ r. ⌜ (r ≡ analyseCode Direct n (now (samples .entry)) (now (coefficients .entry))) × (now (coefficients .exit) ≡ analyseOut Direct n (now (samples .entry)) (now (coefficients .entry))) ⌝ }
+    ensures { λ r. ⌜ r ≡ analyseCode Direct n (now (samples .entry)) (now (coefficients .entry)) ⌝ }
+    ensures { λ _. ⌜ now (coefficients .exit) ≡ analyseOut Direct n (now (samples .entry)) (now (coefficients .entry)) ⌝ }
 {
     filter_bank::analyse(Route::Direct, n, samples, coefficients)
 }
@@ -31,7 +32,8 @@ pub extern "C" fn dapplescree_analyse_short(
     samples: &[i16],
     coefficients: &mut [i32],
 ) -> u32
-    ensures { λ r. ⌜ (r ≡ analyseCode Short n (now (samples .entry)) (now (coefficients .entry))) × (now (coefficients .exit) ≡ analyseOut Short n (now (samples .entry)) (now (coefficients .entry))) ⌝ }
+    ensures { λ r. ⌜ r ≡ analyseCode Short n (now (samples .entry)) (now (coefficients .entry)) ⌝ }
+    ensures { λ _. ⌜ now (coefficients .exit) ≡ analyseOut Short n (now (samples .entry)) (now (coefficients .entry)) ⌝ }
 {
     filter_bank::analyse(Route::Short, n, samples, coefficients)
 }
@@ -56,17 +58,17 @@ fn write_tail(tail: [i64; stream::STORAGE], part: &mut [i64])
     }
 }
 
-// A fresh stream, as a state. 2: the state's length is another. 1: n is not tabled. Refused, the state is left alone.
+// A fresh stream, as a state. 1: n is not tabled. 2: the state's length is another. Refused, the state is left alone.
 #[no_mangle]
 pub extern "C" fn dapplescree_stream_fresh(n: usize, state: &mut [i64]) -> u32
     ensures { λ r. ⌜ (r ≡ freshCode n (now (state .entry))) × (now (state .exit) ≡ freshState n (now (state .entry))) ⌝ }
 {
-    if state.len() != ENTRIES {
-        return 2;
-    }
     let made = filter_bank::fresh(n);
     if made.code != 0 {
         return made.code;
+    }
+    if state.len() != ENTRIES {
+        return 2;
     }
     let fresh = made.stream;
     let tail = fresh.tail;
@@ -83,7 +85,9 @@ pub extern "C" fn dapplescree_stream_step(
     coefficients: &[i32],
     hop: &mut [i16],
 ) -> u32
-    ensures { λ r. ⌜ (r ≡ stepCode (now (state .entry)) (now (coefficients .entry)) (now (hop .entry))) × (now (state .exit) ≡ stepState (now (state .entry)) (now (coefficients .entry)) (now (hop .entry))) × (now (hop .exit) ≡ stepOut (now (state .entry)) (now (coefficients .entry)) (now (hop .entry))) ⌝ }
+    ensures { λ r. ⌜ r ≡ stepCode (now (state .entry)) (now (coefficients .entry)) (now (hop .entry)) ⌝ }
+    ensures { λ _. ⌜ now (state .exit) ≡ stepState (now (state .entry)) (now (coefficients .entry)) (now (hop .entry)) ⌝ }
+    ensures { λ _. ⌜ now (hop .exit) ≡ stepOut (now (state .entry)) (now (coefficients .entry)) (now (hop .entry)) ⌝ }
 {
     if state.len() != ENTRIES {
         return 2;
@@ -99,7 +103,8 @@ pub extern "C" fn dapplescree_analyse_recording_direct(
     samples: &[i16],
     coefficients: &mut [i32],
 ) -> u32
-    ensures { λ r. ⌜ (r ≡ recordedCode Direct n blocks (now (samples .entry)) (now (coefficients .entry))) × (now (coefficients .exit) ≡ recordedOut Direct n blocks (now (samples .entry)) (now (coefficients .entry))) ⌝ }
+    ensures { λ r. ⌜ r ≡ recordedCode Direct n blocks (now (samples .entry)) (now (coefficients .entry)) ⌝ }
+    ensures { λ _. ⌜ now (coefficients .exit) ≡ recordedOut Direct n blocks (now (samples .entry)) (now (coefficients .entry)) ⌝ }
 {
     filter_bank::analyse_recording(Route::Direct, n, blocks, samples, coefficients)
 }
@@ -112,7 +117,8 @@ pub extern "C" fn dapplescree_analyse_recording_short(
     samples: &[i16],
     coefficients: &mut [i32],
 ) -> u32
-    ensures { λ r. ⌜ (r ≡ recordedCode Short n blocks (now (samples .entry)) (now (coefficients .entry))) × (now (coefficients .exit) ≡ recordedOut Short n blocks (now (samples .entry)) (now (coefficients .entry))) ⌝ }
+    ensures { λ r. ⌜ r ≡ recordedCode Short n blocks (now (samples .entry)) (now (coefficients .entry)) ⌝ }
+    ensures { λ _. ⌜ now (coefficients .exit) ≡ recordedOut Short n blocks (now (samples .entry)) (now (coefficients .entry)) ⌝ }
 {
     filter_bank::analyse_recording(Route::Short, n, blocks, samples, coefficients)
 }
@@ -125,7 +131,8 @@ pub extern "C" fn dapplescree_synthesise_recording(
     coefficients: &[i32],
     samples: &mut [i16],
 ) -> u32
-    ensures { λ r. ⌜ (r ≡ playedCode n blocks (now (coefficients .entry)) (now (samples .entry))) × (now (samples .exit) ≡ playedOut n blocks (now (coefficients .entry)) (now (samples .entry))) ⌝ }
+    ensures { λ r. ⌜ r ≡ playedCode n blocks (now (coefficients .entry)) (now (samples .entry)) ⌝ }
+    ensures { λ _. ⌜ now (samples .exit) ≡ playedOut n blocks (now (coefficients .entry)) (now (samples .entry)) ⌝ }
 {
     filter_bank::synthesise_recording(n, blocks, coefficients, samples)
 }

@@ -1,10 +1,8 @@
 // Blocks through the public analysis, by both routes, compared with what vectors/blocks.py makes from the definitions.
-ghost use mathlib.Core.Path.{_≡_};
 ghost use Prim.Native.Nat.{_≤_, _<_, _/_, _^_};
 ghost use lib.Dec.{T};
-ghost use lib.ListN.{length};
 ghost use Rattle.cosine.specs.Kernels.{tabled};
-use recording::Route;
+use analysis::Route;
 
 // Room for the longest block and for buffers that are too long.
 const ROOM: usize = 80;
@@ -24,35 +22,21 @@ fn show_route(route: Route) {
     }
 }
 
-// The number and the buffer after a call.
-fn show_out(code: u32, out: &[i32]) {
-    report::count(code as usize);
-    for k in 0..out.len() {
-        report::field(out[k] as i64);
-    }
-    report::end();
-}
-
 // One call: its route, N and the number of samples, and what is there afterwards.
 fn told(route: Route, n: usize, x: &[i16], out: &mut [i32]) {
     show_route(route);
     report::count(n);
     report::count(x.len());
     let code = filter_bank::analyse(route, n, x, out);
-    show_out(code, out);
-}
-
-fn marks() -> [i32; ROOM]
-    ensures { λ r. ⌜ 80 ≡ length r ⌝ }
-{
-    [12345; ROOM]
+    report::count(code as usize);
+    report::coefficients(out);
 }
 
 // A call on the first l entries of x and a buffer of m marks.
 fn offer(route: Route, n: usize, x: [i16; ROOM], l: usize, m: usize)
     requires { ⌜ (l ≤ 80) × (m ≤ 80) ⌝ }
 {
-    let mut out = marks();
+    let mut out = [12345; ROOM];
     told(route, n, &x[..l], &mut out[..m]);
 }
 
@@ -70,36 +54,18 @@ fn block(n: usize, x: [i16; ROOM])
     both(n, x, n, n / 2);
 }
 
-// Pseudo-random numbers, and one of -span .. span - 1.
-fn random(seed: u64) -> u64
-    requires { ⌜ seed < 2 ^ 32 ⌝ }
-    ensures { λ r. ⌜ r < 2 ^ 32 ⌝ }
-{
-    (seed * 1664525 + 1013904223) % 4294967296
-}
-
-fn sample(r: u64, span: u64) -> i16
-    requires { ⌜ (0 < span) × (span ≤ 32768) ⌝ }
-{
-    let at = r / 65536 % (2 * span);
-    (at as i32 - span as i32) as i16
-}
-
+// Noise of a seed and a span.
 fn noise(seed: u64, span: u64) -> [i16; ROOM]
-    requires { ⌜ (seed < 2 ^ 32) × (0 < span) × (span ≤ 32768) ⌝ }
+    requires { ⌜ (seed < 2 ^ 32) × (span ≤ 32768) ⌝ }
 {
     let mut x = [0; ROOM];
-    let mut r = seed;
-    for i in 0..ROOM {
-        r = random(r);
-        x[i] = sample(r, span);
-    }
+    report::noise::fill(&mut x, seed, span);
     x
 }
 
 // All of the range, louder and softer parts of it, and a quiet one, block by block.
 fn span(b: usize) -> u64
-    ensures { λ r. ⌜ (0 < r) × (r ≤ 32768) ⌝ }
+    ensures { λ r. ⌜ r ≤ 32768 ⌝ }
 {
     let kind = b % 4;
     if kind == 0 {

@@ -2,7 +2,7 @@
 ghost use mathlib.Core.Path.{_≡_};
 ghost use Prim.Native.Nat.{_≤_, _<_, _^_};
 ghost use lib.ListN.{length};
-use recording::Route;
+use analysis::Route;
 
 // Room for a recording of 4,097 blocks of the longest length, one more than are taken.
 const ROOM: usize = 147528;
@@ -25,39 +25,6 @@ const ABOVE: i32 = 536870913;
 
 const BELOW: i32 = -536870913;
 
-// Pseudo-random numbers, and a sample of -span .. span - 1.
-fn random(seed: u64) -> u64
-    requires { ⌜ seed < 2 ^ 32 ⌝ }
-    ensures { λ r. ⌜ r < 2 ^ 32 ⌝ }
-{
-    (seed * 1664525 + 1013904223) % 4294967296
-}
-
-fn sample(r: u64, span: u64) -> i16
-    requires { ⌜ (0 < span) × (span ≤ 32768) ⌝ }
-{
-    let at = r / 65536 % (2 * span);
-    (at as i32 - span as i32) as i16
-}
-
-// One end of a sample's range or the other.
-fn loudest(r: u64) -> i16 {
-    if r / 65536 % 2 == 0 {
-        return -32768;
-    }
-    32767
-}
-
-// A sample of noise. Of span 0 it is as loud as a sample can be.
-fn voiced(r: u64, span: u64) -> i16
-    requires { ⌜ span ≤ 32768 ⌝ }
-{
-    if span == 0 {
-        return loudest(r);
-    }
-    sample(r, span)
-}
-
 // A coefficient of the range changed by -span .. span.
 fn changed(v: i32, r: u64, span: u64) -> i32
     requires { ⌜ span ≤ 32768 ⌝ }
@@ -68,20 +35,7 @@ fn changed(v: i32, r: u64, span: u64) -> i32
     if MOST < v {
         return v;
     }
-    let at = r / 65536 % (2 * span + 1);
-    v + (at as i32 - span as i32)
-}
-
-// The recording of a seed: noise.
-fn fill(x: &mut [i16], seed: u64, span: u64)
-    requires { ⌜ (seed < 2 ^ 32) × (span ≤ 32768) ⌝ }
-    ensures { λ _. ⌜ length (now (x .exit)) ≡ length (now (x .entry)) ⌝ }
-{
-    let mut r = seed;
-    for i in 0..x.len() {
-        r = random(r);
-        x[i] = voiced(r, span);
-    }
+    v + report::noise::offset(r / 65536, span)
 }
 
 // Every coefficient changed.
@@ -91,71 +45,9 @@ fn change(c: &mut [i32], seed: u64, span: u64)
 {
     let mut r = seed;
     for k in 0..c.len() {
-        r = random(r);
+        r = report::noise::random(r);
         c[k] = changed(c[k], r, span);
     }
-}
-
-// A running sum with one more entry: a change of any one entry changes it.
-fn summed(h: u64, v: i64) -> u64
-    requires { ⌜ h < 2 ^ 32 ⌝ }
-    ensures { λ r. ⌜ r < 2 ^ 32 ⌝ }
-{
-    let size = arithmetic::size(v) % 4294967296;
-    if v < 0 {
-        return (h * 31 + size * 2 + 1) % 4294967296;
-    }
-    (h * 31 + size * 2) % 4294967296
-}
-
-fn sum_coefficients(c: &[i32]) -> u64 {
-    let mut h = 0;
-    for k in 0..c.len() {
-        h = summed(h, c[k] as i64);
-    }
-    h
-}
-
-fn sum_samples(x: &[i16]) -> u64 {
-    let mut h = 0;
-    for i in 0..x.len() {
-        h = summed(h, x[i] as i64);
-    }
-    h
-}
-
-// The entries of a buffer.
-fn list_coefficients(c: &[i32]) {
-    for k in 0..c.len() {
-        report::field(c[k] as i64);
-    }
-}
-
-fn list_samples(x: &[i16]) {
-    for i in 0..x.len() {
-        report::field(x[i] as i64);
-    }
-}
-
-// A long buffer is shown by its length and sum.
-fn show_coefficients(c: &[i32]) {
-    if c.len() <= SMALL {
-        list_coefficients(c);
-    } else {
-        report::count(c.len());
-        report::count(sum_coefficients(c) as usize);
-    }
-    report::end();
-}
-
-fn show_samples(x: &[i16]) {
-    if x.len() <= SMALL {
-        list_samples(x);
-    } else {
-        report::count(x.len());
-        report::count(sum_samples(x) as usize);
-    }
-    report::end();
 }
 
 fn show_route(route: Route) {
@@ -173,7 +65,7 @@ fn analysed(route: Route, n: usize, blocks: usize, x: &[i16], out: &mut [i32]) {
     report::count(x.len());
     let code = filter_bank::analyse_recording(route, n, blocks, x, out);
     report::count(code as usize);
-    show_coefficients(out);
+    report::coefficients(out);
 }
 
 fn synthesised(n: usize, blocks: usize, c: &[i32], out: &mut [i16]) {
@@ -183,37 +75,17 @@ fn synthesised(n: usize, blocks: usize, c: &[i32], out: &mut [i16]) {
     report::count(c.len());
     let code = filter_bank::synthesise_recording(n, blocks, c, out);
     report::count(code as usize);
-    show_samples(out);
+    report::samples(out);
 }
 
-// The inner part of a buffer that is lent to be read.
+// The inner part of a buffer.
 fn viewed(n: usize, blocks: usize, out: &[i16]) {
-    report::word(b"view");
-    report::count(n);
-    report::count(blocks);
-    let part = filter_bank::inner_view(n, blocks, out);
-    report::count(part.len());
-    show_samples(part);
-}
-
-// Marks at every place.
-fn overwrite(part: &mut [i16]) {
-    for i in 0..part.len() {
-        part[i] = MARK;
-    }
-}
-
-// The inner part of a buffer that is lent to be written: the part, and the whole buffer after marks went into the part.
-fn overwritten(n: usize, blocks: usize, out: &mut [i16]) {
     report::word(b"inner");
     report::count(n);
     report::count(blocks);
     let part = filter_bank::inner(n, blocks, out);
     report::count(part.len());
-    show_samples(part);
-    overwrite(part);
-    report::word(b"buffer");
-    show_samples(out);
+    report::samples(part);
 }
 
 // The sample at a place, and past the end a number that no sample is.
@@ -244,7 +116,7 @@ fn differing(part: &[i16], later: &[i16]) -> usize {
 
 // The inner part against the recording from its second hop on.
 fn compared(n: usize, blocks: usize, later: &[i16], out: &[i16]) {
-    let part = filter_bank::inner_view(n, blocks, out);
+    let part = filter_bank::inner(n, blocks, out);
     let count = differing(part, later);
     if count == 0 {
         report::word(b"same");
@@ -255,12 +127,19 @@ fn compared(n: usize, blocks: usize, later: &[i16], out: &[i16]) {
     report::end();
 }
 
+// Marks from a place on: what the next call writes there is seen.
+fn mark(out: &mut [i16], from: usize) {
+    for i in from..out.len() {
+        out[i] = MARK;
+    }
+}
+
 // Coefficients back to samples, and the inner part of them.
 fn back(n: usize, blocks: usize, later: &[i16], c: &[i32], out: &mut [i16]) {
     synthesised(n, blocks, c, out);
-    viewed(n, blocks, out);
     compared(n, blocks, later, out);
-    overwritten(n, blocks, out);
+    viewed(n, blocks, out);
+    mark(out, n / 2);
 }
 
 // A coefficient out of range in the last place.
@@ -299,16 +178,7 @@ fn there_and_back(
     back(n, blocks, rest, c, out);
 }
 
-// Large buffers: of noise, and of marks.
-fn sound(seed: u64, span: u64) -> [i16; ROOM]
-    requires { ⌜ (seed < 2 ^ 32) × (span ≤ 32768) ⌝ }
-    ensures { λ r. ⌜ 147528 ≡ length r ⌝ }
-{
-    let mut x = [0; ROOM];
-    fill(&mut x, seed, span);
-    x
-}
-
+// Large buffers of marks.
 fn marks() -> [i16; ROOM]
     ensures { λ r. ⌜ 147528 ≡ length r ⌝ }
 {
@@ -325,7 +195,8 @@ fn coefficient_marks() -> [i32; ROOM]
 fn buffered(route: Route, n: usize, blocks: usize, span: u64, l: usize, m: usize)
     requires { ⌜ (n ≤ 72) × (blocks ≤ 4097) × (span ≤ 32768) × (l ≤ 147528) × (m ≤ 147528) ⌝ }
 {
-    let x = sound((n + blocks) as u64, span);
+    let mut x = marks();
+    report::noise::fill(&mut x, (n + blocks) as u64, span);
     let mut c = coefficient_marks();
     let mut out = marks();
     there_and_back(route, n, blocks, &x[..l], &mut c[..m], &mut out[..m]);
@@ -362,7 +233,7 @@ fn noise() -> [i16; SMALL]
     ensures { λ r. ⌜ 160 ≡ length r ⌝ }
 {
     let mut x = [0; SMALL];
-    fill(&mut x, 5, 32768);
+    report::noise::fill(&mut x, 5, 32768);
     x
 }
 
@@ -400,13 +271,12 @@ fn play(n: usize, blocks: usize, c: [i32; SMALL], l: usize, m: usize)
     synthesised(n, blocks, &c[..l], &mut out[..m]);
 }
 
-// The inner part of a buffer of l samples, either way.
+// The inner part of a buffer of l samples.
 fn part(n: usize, blocks: usize, l: usize)
     requires { ⌜ l ≤ 160 ⌝ }
 {
-    let mut out = noise();
+    let out = noise();
     viewed(n, blocks, &out[..l]);
-    overwritten(n, blocks, &mut out[..l]);
 }
 
 // Samples and coefficients that are one fewer, one more, none, or one in place of the other.
@@ -469,10 +339,11 @@ fn wrong_count(n: usize, m: usize, blocks: usize)
     both(n, blocks, 3 * m, 2 * m);
     both(n, blocks, m, 0);
     both(n, blocks, 0, 0);
-    play(n, blocks, with(0, 1), m, m);
+    let c = with(0, 1);
+    play(n, blocks, c, m, m);
     play(n, blocks, with(0, ABOVE), m, m);
-    play(n, blocks, with(0, 1), 2 * m, m);
-    play(n, blocks, with(0, 1), 0, 0);
+    play(n, blocks, c, 2 * m, m);
+    play(n, blocks, c, 0, 0);
     part(n, blocks, m);
     part(n, blocks, 2 * m);
     part(n, blocks, 0);
@@ -491,9 +362,10 @@ fn wrong_counts(n: usize, m: usize)
 fn limit(n: usize, m: usize, at: usize, v: i32)
     requires { ⌜ (1 ≤ m) × (m ≤ 160) × (at < 160) ⌝ }
 {
-    play(n, 2, with(at, v), m, m);
-    play(n, 2, with(at, v), m, m - 1);
-    play(n, 2, with(at, v), m - 1, m);
+    let c = with(at, v);
+    play(n, 2, c, m, m);
+    play(n, 2, c, m, m - 1);
+    play(n, 2, c, m - 1, m);
 }
 
 // First, last, in the middle, and just past the end, where it is no cause.
@@ -536,10 +408,11 @@ fn named(n: usize) {
     both(n, 2, 36, 24);
     both(n, 2, 54, 36);
     both(n, 2, 108, 72);
-    play(n, 2, with(0, 1), 12, 12);
-    play(n, 2, with(0, 1), 24, 24);
-    play(n, 2, with(0, 1), 36, 36);
-    play(n, 2, with(0, 1), 72, 72);
+    let c = with(0, 1);
+    play(n, 2, c, 12, 12);
+    play(n, 2, c, 24, 24);
+    play(n, 2, c, 36, 36);
+    play(n, 2, c, 72, 72);
 }
 
 // A length that is not tabled: with buffers of its own, and with everything else wrong too.

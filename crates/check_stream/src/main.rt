@@ -1,7 +1,5 @@
 // Streams through the public calls, step after step, compared with what vectors/stream.py makes from the definitions.
-ghost use mathlib.Core.Path.{_≡_};
 ghost use Prim.Native.Nat.{_≤_, _<_, _^_};
-ghost use lib.ListN.{length};
 use stream::Stream;
 
 // Room for a hop of the longest block and for buffers that are too long.
@@ -28,15 +26,6 @@ const BLOCKS: usize = 12;
 
 const TWICE: usize = 16;
 
-fn show_out(code: u32, out: &[i16]) {
-    report::word(b"out");
-    report::count(code as usize);
-    for i in 0..out.len() {
-        report::field(out[i] as i64);
-    }
-    report::end();
-}
-
 fn show_stream(n: usize, tail: &[i64]) {
     report::word(b"stream");
     report::count(n);
@@ -46,85 +35,62 @@ fn show_stream(n: usize, tail: &[i64]) {
     report::end();
 }
 
-// One step, and what is there afterwards.
-fn told(s: Stream, x: &[i32], out: &mut [i16]) -> Stream {
-    let r = filter_bank::step(s, x, out);
-    show_out(r.code, out);
-    let next = r.stream;
-    let tail = next.tail;
-    show_stream(next.n, &tail);
-    next
+// What is there after a step: its number, the buffer and the stream.
+fn show(code: u32, out: &[i16], n: usize, tail: &[i64]) {
+    report::word(b"out");
+    report::count(code as usize);
+    report::samples(out);
+    show_stream(n, tail);
 }
 
-fn marks() -> [i16; ROOM]
-    ensures { λ r. ⌜ 40 ≡ length r ⌝ }
-{
-    [12345; ROOM]
+fn told(s: Stream, x: &[i32], out: &mut [i16]) -> Stream {
+    let r = filter_bank::step(s, x, out);
+    let next = r.stream;
+    let tail = next.tail;
+    show(r.code, out, next.n, &tail);
+    next
 }
 
 // A step on the first m entries of x and a buffer of l marks.
 fn offer(s: Stream, x: [i32; ROOM], m: usize, l: usize) -> Stream
     requires { ⌜ (m ≤ 40) × (l ≤ 40) ⌝ }
 {
-    let mut out = marks();
+    let mut out = [12345; ROOM];
     told(s, &x[..m], &mut out[..l])
 }
 
-// One step in place, and what is there afterwards.
+// The same two in place.
 fn told_in_place(n: usize, tail: &mut [i64], x: &[i32], out: &mut [i16]) {
     let code = filter_bank::step_in_place(n, tail, x, out);
-    show_out(code, out);
-    show_stream(n, tail);
+    show(code, out, n, tail);
 }
 
-// The same on the first m entries of x and a buffer of l marks.
 fn offer_in_place(n: usize, tail: &mut [i64], x: [i32; ROOM], m: usize, l: usize)
     requires { ⌜ (m ≤ 40) × (l ≤ 40) ⌝ }
 {
-    let mut out = marks();
+    let mut out = [12345; ROOM];
     told_in_place(n, tail, &x[..m], &mut out[..l]);
 }
 
-// Pseudo-random numbers, and one of -span .. span.
-fn random(seed: u64) -> u64
-    requires { ⌜ seed < 2 ^ 32 ⌝ }
-    ensures { λ r. ⌜ r < 2 ^ 32 ⌝ }
-{
-    (seed * 1664525 + 1013904223) % 4294967296
-}
-
-fn coefficient(r: u64, span: u64) -> i32
-    requires { ⌜ (r < 2 ^ 32) × (span < 2 ^ 30) ⌝ }
-{
-    let at = r % (2 * span + 1);
-    at as i32 - span as i32
-}
-
+// Noise of a seed and a span.
 fn noise(seed: u64, span: u64) -> [i32; ROOM]
     requires { ⌜ (seed < 2 ^ 32) × (span < 2 ^ 30) ⌝ }
 {
     let mut x = [0; ROOM];
     let mut r = seed;
     for k in 0..ROOM {
-        r = random(r);
-        x[k] = coefficient(r, span);
+        r = report::noise::random(r);
+        x[k] = report::noise::offset(r, span);
     }
     x
 }
 
 // As loud as a block can be: entry k is at the lower end where bit k of `signs` is set, and at the upper end elsewhere.
-fn loudest(bit: u64) -> i32 {
-    if bit == 1 {
-        return LEAST;
-    }
-    MOST
-}
-
 fn loud(signs: u64) -> [i32; ROOM] {
     let mut x = [0; ROOM];
     let mut rest = signs;
     for k in 0..ROOM {
-        x[k] = loudest(rest % 2);
+        x[k] = if rest % 2 == 1 { LEAST } else { MOST };
         rest = rest / 2;
     }
     x
@@ -156,20 +122,59 @@ fn span(b: usize) -> u64
     536870912
 }
 
-// A step that is refused: by the length of either buffer, by a coefficient, by both.
+// A step that is refused: by the length of either buffer, by a coefficient, by both. What it is handed: the block, how many entries of
+// it, and how many marks.
+fn spoilt(x: [i32; ROOM], m: usize, kind: usize) -> [i32; ROOM]
+    requires { ⌜ (1 ≤ m) × (m ≤ 36) ⌝ }
+{
+    if kind == 2 {
+        return with(x, m - 1, ABOVE);
+    }
+    if kind == 3 {
+        return with(x, 0, BELOW);
+    }
+    x
+}
+
+fn entries(m: usize, kind: usize) -> usize
+    requires { ⌜ 1 ≤ m ⌝ }
+    ensures { λ r. ⌜ r ≤ m ⌝ }
+{
+    if kind == 0 {
+        return m - 1;
+    }
+    m
+}
+
+fn space(m: usize, kind: usize) -> usize
+    requires { ⌜ (1 ≤ m) × (m ≤ 36) ⌝ }
+    ensures { λ r. ⌜ r ≤ 37 ⌝ }
+{
+    if kind == 1 {
+        return m + 1;
+    }
+    if kind == 3 {
+        return m - 1;
+    }
+    m
+}
+
 fn refused(s: Stream, x: [i32; ROOM], m: usize, kind: usize) -> Stream
     requires { ⌜ (1 ≤ m) × (m ≤ 36) ⌝ }
 {
-    if kind == 0 {
-        return offer(s, x, m - 1, m);
-    }
-    if kind == 1 {
-        return offer(s, x, m, m + 1);
-    }
-    if kind == 2 {
-        return offer(s, with(x, m - 1, ABOVE), m, m);
-    }
-    offer(s, with(x, 0, BELOW), m, m - 1)
+    offer(s, spoilt(x, m, kind), entries(m, kind), space(m, kind))
+}
+
+fn refused_in_place(n: usize, tail: &mut [i64], x: [i32; ROOM], m: usize, kind: usize)
+    requires { ⌜ (1 ≤ m) × (m ≤ 36) ⌝ }
+{
+    offer_in_place(
+        n,
+        tail,
+        spoilt(x, m, kind),
+        entries(m, kind),
+        space(m, kind),
+    );
 }
 
 // A long stream: a refused step first and after every block.
@@ -183,25 +188,6 @@ fn long(n: usize, m: usize)
         s = offer(s, x, m, m);
         s = refused(s, x, m, b % 4);
     }
-}
-
-// The same refusals in place.
-fn refused_in_place(n: usize, tail: &mut [i64], x: [i32; ROOM], m: usize, kind: usize)
-    requires { ⌜ (1 ≤ m) × (m ≤ 36) ⌝ }
-{
-    if kind == 0 {
-        offer_in_place(n, tail, x, m - 1, m);
-        return;
-    }
-    if kind == 1 {
-        offer_in_place(n, tail, x, m, m + 1);
-        return;
-    }
-    if kind == 2 {
-        offer_in_place(n, tail, with(x, m - 1, ABOVE), m, m);
-        return;
-    }
-    offer_in_place(n, tail, with(x, 0, BELOW), m, m - 1);
 }
 
 // The same blocks in place, with a refused step before each of them, and by value: every pair of answers is the same.
@@ -219,31 +205,13 @@ fn beside(n: usize, m: usize)
     }
 }
 
-// Buffers that are empty, one of them or both.
-fn empty(s: Stream, x: [i32; ROOM], m: usize) -> Stream
-    requires { ⌜ m ≤ 36 ⌝ }
+// Buffers of another size than m, one of them or both.
+fn wrong(s: Stream, x: [i32; ROOM], m: usize, size: usize) -> Stream
+    requires { ⌜ (m ≤ 36) × (size ≤ 37) ⌝ }
 {
-    let s1 = offer(s, x, m, 0);
-    let s2 = offer(s1, x, 0, m);
-    offer(s2, x, 0, 0)
-}
-
-// Buffers that are short by one.
-fn shorter(s: Stream, x: [i32; ROOM], m: usize) -> Stream
-    requires { ⌜ (1 ≤ m) × (m ≤ 36) ⌝ }
-{
-    let s1 = offer(s, x, m, m - 1);
-    let s2 = offer(s1, x, m - 1, m);
-    offer(s2, x, m - 1, m - 1)
-}
-
-// Buffers that are long by one.
-fn longer(s: Stream, x: [i32; ROOM], m: usize) -> Stream
-    requires { ⌜ m ≤ 36 ⌝ }
-{
-    let s1 = offer(s, x, m, m + 1);
-    let s2 = offer(s1, x, m + 1, m);
-    offer(s2, x, m + 1, m + 1)
+    let s1 = offer(s, x, m, size);
+    let s2 = offer(s1, x, size, m);
+    offer(s2, x, size, size)
 }
 
 // Wrong lengths between two good blocks.
@@ -253,9 +221,9 @@ fn sizes(n: usize, m: usize)
     let x = noise(11, 1000000);
     let made = filter_bank::fresh(n);
     let s1 = offer(made.stream, x, m, m);
-    let s2 = empty(s1, x, m);
-    let s3 = shorter(s2, x, m);
-    let s4 = longer(s3, x, m);
+    let s2 = wrong(s1, x, m, 0);
+    let s3 = wrong(s2, x, m, m - 1);
+    let s4 = wrong(s3, x, m, m + 1);
     offer(s4, x, m, m);
 }
 
@@ -289,8 +257,8 @@ fn limit(n: usize, m: usize, v: i32)
     let made = filter_bank::fresh(n);
     let s1 = offer(made.stream, first, m, m);
     let s2 = offer(s1, last, m, m);
-    let s3 = shorter(s2, first, m);
-    let s4 = longer(s3, last, m);
+    let s3 = wrong(s2, first, m, m - 1);
+    let s4 = wrong(s3, last, m, m + 1);
     offer(s4, x, m, m);
 }
 
@@ -300,9 +268,10 @@ fn limit_places(n: usize, m: usize)
 {
     let made = filter_bank::fresh(n);
     let mut s = made.stream;
+    let x = loud(0);
     for k in 0..m {
-        s = offer(s, with(loud(0), k, ABOVE), m, m);
-        s = offer(s, with(loud(0), k, BELOW), m, m);
+        s = offer(s, with(x, k, ABOVE), m, m);
+        s = offer(s, with(x, k, BELOW), m, m);
     }
 }
 
@@ -335,9 +304,10 @@ fn forged_first(n: usize, m: usize, v: i64)
         n: n,
         tail: [v; stream::STORAGE],
     };
-    let s1 = offer(s, loud(0), 0, m);
-    let s2 = offer(s1, with(loud(0), 0, ABOVE), m, m);
-    offer(s2, with(loud(0), 0, BELOW), m, 0);
+    let x = loud(0);
+    let s1 = offer(s, x, 0, m);
+    let s2 = offer(s1, with(x, 0, ABOVE), m, m);
+    offer(s2, with(x, 0, BELOW), m, 0);
 }
 
 // A whole tail of v, and a block that drives one place as far as it goes.

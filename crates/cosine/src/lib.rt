@@ -1,5 +1,6 @@
 // The cosine table, the window and the kernels, read at any place. The facts about them are in specs/.
-// No function here is a public call: `filter_bank` and `listing` call them, each under its requires.
+// No function here is a public call: the public calls and `listing` call `is_tabled`. The others are read by test programs only: the bank lends the
+// tables of `tables`, which are proved from the same definitions.
 ghost use mathlib.Core.Path.{_≡_};
 ghost use Prim.Native.Nat.{_≤_, _<_, _*_, _/_, _^_};
 ghost use lib.Dec.{T};

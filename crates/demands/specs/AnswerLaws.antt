@@ -1,45 +1,41 @@
 -- Laws of the public calls' numbers: `demand-1`, that every call answers as document 01's table of causes says.
-use mathlib.Core.Path.{_≡_, refl, sym, ap}
+use mathlib.Core.Path.{_≡_, refl, sym, ap, _∙_}
+use mathlib.Core.Logic.{_≢_}
 use mathlib.Core.Bool.{Bool, true, false, cond}
-use mathlib.Core.List.{List}
-use Prim.Native.Nat.{ℕ, _+_, _*_, _/_}
+use mathlib.Core.List.{List, _∷_, _++_}
+use Prim.Native.Nat.{ℕ, _*_, _/_}
+use native.Mathlib.Omega.{arith}
+use native.Mathlib.Decide.{ℕ-discrete}
 use lib.Dec.{eqb}
-use lib.ListN.{length}
-use lib.IntN.{ℤ}
+use lib.ListN.{length, take, replicate}
+use lib.IntN.{ℤ, pos, natAbs}
+use lib.Signed.{_<ℤ_, ltZ}
 use borrow.Author.Tests.{le-leb, eq-eqb, ne-eqb}
-use Rattle.arithmetic.specs.Lists.{at}
-use Rattle.arithmetic.specs.TestLaws.{cond-yes, cond-no, all-make}
-use Rattle.cosine.specs.Kernels.{tabled}
-use Rattle.short_route.specs.ShortRoute as R
+use Rattle.arithmetic.specs.Lists.{at, every}
+use Rattle.arithmetic.specs.TestLaws.{cond-yes, cond-no, all-make, is-true, is-false}
+use Rattle.cosine.specs.Kernels.{lengths, tabled}
 use Rattle.stream.specs.declared.Stream.{Stream}
 use Rattle.stream.specs.Synthesis as S
 use Rattle.stream.specs.Steps.{next, hop}
-use Rattle.recording.specs.declared.Route.{Route}
-use Rattle.recording.specs.declared.Route.the-variants.{Direct, Short}
-use Rattle.recording.specs.Analysis.{offered, coefficients}
+use Rattle.analysis.specs.declared.Route.{Route}
+use Rattle.analysis.specs.Analysis.{coefficients}
 use Rattle.recording.specs.Recordings.{analysis, synthesis}
-use Rattle.filter_bank.specs.declared.Made.{Made}
-use Rattle.filter_bank.specs.declared.Stepped.{Stepped}
-use Rattle.filter_bank.specs.Analysis.{analyseCode, analyseOut}
-use Rattle.filter_bank.specs.Streams.{within, tailLimit, coefficientLimit, fresh, sound, inRange, stepCode, step, placeCode, placeTail, placeOut}
-use Rattle.filter_bank.specs.StreamLaws.{is-true, is-false, range-small, sound-tabled, sound-bounded, place-2, place-code, place-out, place-step}
-use Rattle.filter_bank.specs.Recordings.{blockLimit, counted, recordedCode, recordedOut, playedCode, playedOut, shaped, innerFrom, innerOf}
-use Rattle.filter_bank.specs.RecordingLaws.{counted-some, counted-most}
+use Rattle.stream_calls.specs.declared.Made.{Made}
+use Rattle.checks.specs.Causes.First.{none, stop, pass}
+use Rattle.checks.specs.CauseLaws.{first-is, same, differs, beside}
+use Rattle.block_calls.specs.Analysis.{analyseCauses, analyseCode, analyseOut}
+use Rattle.checks.specs.Limits.{within, tailLimit, coefficientLimit, inRange, blockLimit, counted}
+use Rattle.stream_calls.specs.Streams.{fresh, sound, stepCauses, stepCode, step, placeCauses, placeCode, placeTail, placeOut}
+use Rattle.checks.specs.LimitLaws.{range-small, counted-some, counted-most}
+use Rattle.stream_calls.specs.StreamLaws.{sound-tabled, sound-bounded, place-code, place-out, place-tail}
+use Rattle.recording_calls.specs.Recordings.{recordedCauses, recordedCode, recordedOut, playedCauses, playedCode, playedOut, shaped, innerFrom, innerOf}
+use Rattle.c_face.specs.Face as F
+use Rattle.c_face.specs.StateLaws.{fresh-holds, fresh-long, same-code, same-out, same-stream, same-long}
+use Rattle.demands.specs.ListingAnswerLaws.{listing-answers}
 use Rattle.demands.specs.StepLaws.{abs-within, sound-of, code-other, refused-stream, refused-buffer}
-use Rattle.demands.specs.Demands.{Tabled, Counted, InRange, SoundTail, AnalyseAnswers, FreshAnswers, StepAnswers, streamOf, PlaceAnswers, RecordedAnswers, PlayedAnswers, Empty, InnerAnswers, Demand-1}
+use Rattle.demands.specs.Demands.{Tabled, Counted, InRange, SoundTail, AnalyseAnswers, FreshAnswers, StepAnswers, streamOf, PlaceAnswers, RecordedAnswers, PlayedAnswers, Empty, InnerAnswers, StateFreshAnswers, StateStepAnswers, Demand-1}
 
 -- ---- the causes as tests
-module _ (N : ℕ) where
-  offers : Tabled N → (route : Route) → offered route N ≡ true
-  unfolding offered R.offered
-  offers t Direct = is-true t
-  offers t Short = is-true t
-
-  declines : ¬ Tabled N → (route : Route) → offered route N ≡ false
-  unfolding offered R.offered
-  declines n Direct = is-false n
-  declines n Short = is-false n
-
 module _ (B : ℕ) where
   counts : Counted B → counted B ≡ true
   unfolding counted
@@ -68,33 +64,7 @@ module _ (s : Stream) where
   unfolding tailLimit
   sounds-not-tail n = is-false (λ t. n (record { each = sound-bounded s (is-true t) .within }))
 
--- ---- the numbers by the tests, whichever other tests fail behind the first
-two-1 : (a b c : Bool) → a ≡ true → c ≡ false → _≡_ {A = ℕ} (cond a (cond b (cond c 0 2) 2) 1) 2
-two-1 a true c p q = rw (p, q)
-two-1 a false c p q = rw p
-
-two-4 : (a b c e : Bool) → a ≡ true → c ≡ false → _≡_ {A = ℕ} (cond a (cond b (cond c (cond e 0 3) 2) 2) 4) 2
-two-4 a true c e p q = rw (p, q)
-two-4 a false c e p q = rw p
-
-recorded-in : (a b c e : Bool) → a ≡ true → c ≡ false → _≡_ {A = ℕ} (cond a (cond b (cond c (cond e 0 2) 2) 2) 1) 2
-recorded-in a true c e p q = rw (p, q)
-recorded-in a false c e p q = rw p
-
-recorded-out : (a b c e : Bool) → a ≡ true → e ≡ false → _≡_ {A = ℕ} (cond a (cond b (cond c (cond e 0 2) 2) 2) 1) 2
-recorded-out a true true e p q = rw (p, q)
-recorded-out a true false e p q = rw p
-recorded-out a false c e p q = rw p
-
-played-in : (a b c e f : Bool) → a ≡ true → c ≡ false → _≡_ {A = ℕ} (cond a (cond b (cond c (cond e (cond f 0 3) 2) 2) 2) 1) 2
-played-in a true c e f p q = rw (p, q)
-played-in a false c e f p q = rw p
-
-played-out : (a b c e f : Bool) → a ≡ true → e ≡ false → _≡_ {A = ℕ} (cond a (cond b (cond c (cond e (cond f 0 3) 2) 2) 2) 1) 2
-played-out a true true e f p q = rw (p, q)
-played-out a true false e f p q = rw p
-played-out a false c e f p q = rw p
-
+-- ---- a buffer's shape, whichever of its tests fails
 shaped-counted : (a b c : Bool) → b ≡ false → cond a (cond b c false) false ≡ false
 shaped-counted true b c q = rw q
 shaped-counted false b c q = refl
@@ -106,14 +76,16 @@ shaped-size false b c q = refl
 
 -- ---- the calls
 analyse-answers : (route : Route) (N : ℕ) (x out : List ℤ) → AnalyseAnswers route N x out
-unfolding analyseCode analyseOut
-analyse-answers route N x out = record {
-  one = λ n. rw (declines N n route);
-  two-in = λ t n. rw (offers N t route, ne-eqb (length x) N n);
-  two-out = λ t n. two-1 (offered route N) (eqb (length x) N) (eqb (length out) (N / 2)) (offers N t route) (ne-eqb (length out) (N / 2) n);
-  taken = λ t e f. rw (offers N t route, eq-eqb (length x) N e, eq-eqb (length out) (N / 2) f);
-  kept = λ r. code-other (analyseCode route N x out) (coefficients route N x) out r;
-}
+unfolding analyseCauses analyseCode analyseOut
+analyse-answers route N x out =
+    let cs = analyseCauses route N x out in
+    record {
+      one = λ n. first-is cs (stop (is-false n));
+      two-in = λ t n. first-is cs (pass (is-true t) (differs n));
+      two-out = λ t n. first-is cs (pass (is-true t) (beside (differs n)));
+      taken = λ t e f. first-is cs (pass (is-true t) (same e (same f none)));
+      kept = λ r. code-other (analyseCode route N x out) (coefficients route N x) out r;
+    }
 
 fresh-answers : (N : ℕ) → FreshAnswers N
 unfolding fresh
@@ -123,70 +95,59 @@ fresh-answers N =
     record { one = λ n. cond-no (tabled N) yes no n; taken = λ t. cond-yes (tabled N) yes no t }
 
 step-answers : (s : Stream) (x out : List ℤ) → StepAnswers s x out
-unfolding stepCode step
+unfolding stepCauses stepCode step
 step-answers s x out =
     let M = s .n / 2 in
-    let a = sound s in
-    let b = eqb (length x) M in
-    let c = eqb (length out) M in
-    let e = inRange M x in
+    let cs = stepCauses s x out in
     record {
-      four-n = λ n. rw (sounds-not-n s n);
-      four-tail = λ n. rw (sounds-not-tail s n);
-      two-in = λ t h n. rw (sounds s t h, ne-eqb (length x) M n);
-      two-out = λ t h n. two-4 a b c e (sounds s t h) (ne-eqb (length out) M n);
-      three = λ t h l m n. rw (sounds s t h, eq-eqb (length x) M l, eq-eqb (length out) M m, ranges-not x M l n);
-      taken = λ t h l m r. rw (sounds s t h, eq-eqb (length x) M l, eq-eqb (length out) M m, ranges x M l r);
+      four-n = λ n. first-is cs (stop (sounds-not-n s n));
+      four-tail = λ n. first-is cs (stop (sounds-not-tail s n));
+      two-in = λ t h n. first-is cs (pass (sounds s t h) (differs n));
+      two-out = λ t h n. first-is cs (pass (sounds s t h) (beside (differs n)));
+      three = λ t h l m n. first-is cs (pass (sounds s t h) (same l (same m (stop (ranges-not x M l n)))));
+      taken = λ t h l m r. first-is cs (pass (sounds s t h) (same l (same m (pass (ranges x M l r) none))));
       code = refl;
       kept-stream = λ r. refused-stream s x out r;
       kept = λ r. refused-buffer s x out r;
     }
 
 place-answers : (N : ℕ) (tail x out : List ℤ) → PlaceAnswers N tail x out
-unfolding placeTail placeOut
+unfolding placeCauses placeCode placeTail placeOut
 place-answers N tail x out = record {
-  two-tail = λ n. sym (place-2 N tail x out n .0);
+  four-n = λ n. first-is (placeCauses N tail x out) (stop (is-false n));
+  two-tail = λ t n. first-is (placeCauses N tail x out) (pass (is-true t) (differs n));
   same = λ e. place-code N tail x out e;
-  same-tail = λ e. ap (λ (r : Stepped). r .stream .tail) (place-step N tail x out e);
+  same-tail = λ e. place-tail N tail x out e;
   same-out = λ e. place-out N tail x out e;
   kept-tail = λ r. code-other (placeCode N tail x out) (next (streamOf N tail) x .tail) tail r;
   kept = λ r. code-other (placeCode N tail x out) (hop (streamOf N tail) x) out r;
 }
 
 recorded-answers : (route : Route) (N B : ℕ) (x out : List ℤ) → RecordedAnswers route N B x out
-unfolding recordedCode recordedOut
+unfolding recordedCauses recordedCode recordedOut
 recorded-answers route N B x out =
-    let long = (B + 1) * (N / 2) in
-    let room = B * (N / 2) in
-    let a = offered route N in
-    let b = counted B in
-    let c = eqb (length x) long in
-    let e = eqb (length out) room in
+    let cs = recordedCauses route N B x out in
     record {
-      one = λ n. rw (declines N n route);
-      two-blocks = λ t n. rw (offers N t route, counts-not B n);
-      two-in = λ t n. recorded-in a b c e (offers N t route) (ne-eqb (length x) long n);
-      two-out = λ t n. recorded-out a b c e (offers N t route) (ne-eqb (length out) room n);
-      taken = λ t k l m. rw (offers N t route, counts B k, eq-eqb (length x) long l, eq-eqb (length out) room m);
+      one = λ n. first-is cs (stop (is-false n));
+      two-blocks = λ t n. first-is cs (pass (is-true t) (stop (counts-not B n)));
+      two-in = λ t n. first-is cs (pass (is-true t) (beside (differs n)));
+      two-out = λ t n. first-is cs (pass (is-true t) (beside (beside (differs n))));
+      taken = λ t k l m. first-is cs (pass (is-true t) (pass (counts B k) (same l (same m none))));
       kept = λ r. code-other (recordedCode route N B x out) (analysis route N B x) out r;
     }
 
 played-answers : (N B : ℕ) (x out : List ℤ) → PlayedAnswers N B x out
-unfolding playedCode playedOut
+unfolding playedCauses playedCode playedOut
 played-answers N B x out =
     let m = B * (N / 2) in
-    let a = tabled N in
-    let b = counted B in
-    let c = eqb (length x) m in
-    let e = eqb (length out) m in
-    let f = inRange m x in
+    let cs = playedCauses N B x out in
     record {
-      one = λ n. let g : tabled N ≡ false = is-false n in rw g;
-      two-blocks = λ t n. let g : tabled N ≡ true = is-true t in rw (g, counts-not B n);
-      two-in = λ t n. played-in a b c e f (is-true t) (ne-eqb (length x) m n);
-      two-out = λ t n. played-out a b c e f (is-true t) (ne-eqb (length out) m n);
-      three = λ t k l h n. let g : tabled N ≡ true = is-true t in rw (g, counts B k, eq-eqb (length x) m l, eq-eqb (length out) m h, ranges-not x m l n);
-      taken = λ t k l h r. let g : tabled N ≡ true = is-true t in rw (g, counts B k, eq-eqb (length x) m l, eq-eqb (length out) m h, ranges x m l r);
+      one = λ n. first-is cs (stop (is-false n));
+      two-blocks = λ t n. first-is cs (pass (is-true t) (stop (counts-not B n)));
+      two-in = λ t n. first-is cs (pass (is-true t) (beside (differs n)));
+      two-out = λ t n. first-is cs (pass (is-true t) (beside (beside (differs n))));
+      three = λ t k l h n. first-is cs (pass (is-true t) (pass (counts B k) (same l (same h (stop (ranges-not x m l n))))));
+      taken = λ t k l h r. first-is cs (pass (is-true t) (pass (counts B k) (same l (same h (pass (ranges x m l r) none)))));
       kept = λ r. code-other (playedCode N B x out) (synthesis N B x) out r;
     }
 
@@ -206,6 +167,63 @@ inner-answers N B out =
       part = λ t k e. let g : tabled N ≡ true = is-true t in (rw (g, counts B k, eq-eqb l m e), rw (g, counts B k, eq-eqb l m e));
     }
 
+-- ---- the calls for C on a state
+state-fresh-answers : (N : ℕ) (state : List ℤ) → StateFreshAnswers N state
+unfolding F.freshCauses F.freshCode F.freshState
+state-fresh-answers N state =
+    let cs = F.freshCauses N state in
+    record {
+      one = λ n. first-is cs (stop (is-false n));
+      two = λ t n. first-is cs (pass (is-true t) (differs n));
+      taken = λ t e. first-is cs (pass (is-true t) (same e none));
+      holds = fresh-holds N state;
+      long = fresh-long N state;
+      kept = λ r. code-other (F.freshCode N state) (pos N ∷ replicate S.storage (pos 0)) state r;
+    }
+
+-- an entry 0 below zero names no tabled length
+negative : (z : ℤ) → z <ℤ pos 0 → F.lengthIn z ≡ 0
+unfolding F.lengthIn
+negative z h = cond-yes (ltZ z (pos 0)) 0 (natAbs z) (h .lt)
+
+no-length : ¬ Tabled 0
+unfolding tabled every lengths
+no-length t = t
+
+module _ (state x out : List ℤ) where
+  kept-step : F.stepCode state x out ≢ 0 → F.stepState state x out ≡ state
+  unfolding F.stepState
+  kept-step r = code-other (F.stepCode state x out) (take 1 state ++ next (F.streamIn state) x .tail) state r
+
+  state-2 : length state ≢ F.entries → F.stepCode state x out ≡ 2
+  unfolding F.stepCauses F.stepCode
+  state-2 n = first-is (F.stepCauses state x out) (differs n)
+
+  long-step : Dec (length state ≡ F.entries) → length (F.stepState state x out) ≡ length state
+  long-step (yes e) = same-long state x out e ∙ sym e
+  long-step (no n) = ap length (kept-step (λ z. let h : _≡_ {A = ℕ} 2 0 = sym (state-2 n) ∙ z in omega arith))
+
+  kept-out : Dec (length state ≡ F.entries) → F.stepCode state x out ≢ 0 → F.stepOut state x out ≡ out
+  unfolding F.stepOut
+  kept-out (yes e) r = same-out state x out e ∙ step-answers (F.streamIn state) x out .kept (λ z. r (same-code state x out e ∙ z))
+  kept-out (no n) r = rw (ne-eqb (length state) F.entries n)
+
+  negative-4 : length state ≡ F.entries → at state 0 <ℤ pos 0 → F.stepCode state x out ≡ 4
+  unfolding F.streamIn
+  negative-4 e h = same-code state x out e ∙ step-answers (F.streamIn state) x out .four-n (rw (negative (at state 0) h) no-length)
+
+  state-step-answers : StateStepAnswers state x out
+  state-step-answers = record {
+    two-state = state-2;
+    same = same-code state x out;
+    same-stream = same-stream state x out;
+    same-out = same-out state x out;
+    four-negative = negative-4;
+    long = long-step (ℕ-discrete (length state) F.entries);
+    kept-state = kept-step;
+    kept = kept-out (ℕ-discrete (length state) F.entries);
+  }
+
 pub demand-1 : Demand-1
 demand-1 = record {
   analyse = analyse-answers;
@@ -215,4 +233,7 @@ demand-1 = record {
   recorded = recorded-answers;
   played = played-answers;
   inner = inner-answers;
+  state-made = state-fresh-answers;
+  state-stepped = state-step-answers;
+  listed = listing-answers;
 }

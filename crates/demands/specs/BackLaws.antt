@@ -11,26 +11,27 @@ use lib.Seq.{getD-drop}
 use lib.IntN.{ℤ, pos, natAbs, _-ℤ_, _+ℤ_}
 use Rattle.arithmetic.specs.Lists.{at}
 use Rattle.arithmetic.specs.ListLaws.{part-at}
-use Rattle.arithmetic.specs.Rounding.{rnd, clamp}
-use Rattle.arithmetic.specs.RoundingLaws.{Sample}
+use Rattle.arithmetic.specs.Rounding.{rnd, clamp, Sample}
 use Rattle.cosine.specs.Kernels.{tabled, rising, falling}
 use Rattle.cosine.specs.LengthLaws.{length-of}
 use Rattle.transform.specs.Synthesis.{V′}
-use Rattle.stream.specs.Steps.{hop}
-use Rattle.stream.specs.NextLaws.{hop-at, next-at}
-use Rattle.recording.specs.declared.Route.{Route}
-use Rattle.recording.specs.declared.Route.the-variants.{Direct}
-use Rattle.recording.specs.Analysis.{offered, coefficients, block}
-use Rattle.recording.specs.Recordings.{part, streamAfter, analysis, synthesis}
+use Rattle.stream.specs.Steps.{returned}
+use Rattle.stream.specs.NextLaws.{returned-long, returned-at}
+use Rattle.analysis.specs.declared.Route.{Route}
+use Rattle.analysis.specs.declared.Route.the-variants.{Direct}
+use Rattle.analysis.specs.Analysis.{offered, coefficients}
+use Rattle.recording.specs.Recordings.{block, part, analysis, synthesis}
 use Rattle.recording.specs.JoinLaws.{within, joined-length, joined-at}
-use Rattle.recording.specs.RecordingLaws.{coefficients-length, stream-n, hop-length, part-length-is}
-use Rattle.filter_bank.specs.AnalysisLaws.{analysed-offered, analyse-taken}
-use Rattle.filter_bank.specs.StreamLaws.{is-T}
-use Rattle.filter_bank.specs.Recordings.{playedCode, playedOut, innerOf}
-use Rattle.filter_bank.specs.RecordingLaws.{counted-some, Recorded, recorded-facts, recorded-taken, Played, played-facts, played-taken, shaped-of}
-use Rattle.demands.specs.Steps.{Recording, Brought, change}
-use Rattle.demands.specs.RecordingLaws.{back-near, back-same}
-use Rattle.demands.specs.Recordings.{ByOneCall, BlockByBlock, Back}
+use Rattle.analysis.specs.AnalysisLaws.{coefficients-length}
+use Rattle.recording.specs.RecordingLaws.{part-length-is}
+use Rattle.block_calls.specs.AnalysisLaws.{analysed-offered, analyse-taken}
+use Rattle.arithmetic.specs.TestLaws.{is-T}
+use Rattle.recording_calls.specs.Recordings.{playedCode, playedOut, innerOf}
+use Rattle.checks.specs.LimitLaws.{counted-some}
+use Rattle.recording_calls.specs.RecordingLaws.{Recorded, recorded-facts, recorded-taken, Played, played-facts, played-taken, shaped-of}
+use Rattle.demands.specs.Steps.{Recording, Brought, provedChange}
+use Rattle.demands.specs.RecordingLaws.{back-near, back-same, near-asked}
+use Rattle.demands.specs.Recordings.{ByOneCall, BlockByBlock, Back, SharperBack}
 
 module _ (N B Q : ℕ) (routes : ℕ → Route) (x X out : List ℤ) (rec : Recording N (B + 1) x) (played : playedCode N B X out ≡ 0)
     (offers : (b : ℕ) → b < B → T (offered (routes b) N))
@@ -53,7 +54,7 @@ module _ (N B Q : ℕ) (routes : ℕ → Route) (x X out : List ℤ) (rec : Reco
 
   left-long : length left ≡ B * (N / 2)
   unfolding synthesis
-  left-long = ap length left-is ∙ joined-length (λ b. hop (streamAfter N X b) (part N X b)) (N / 2) (hop-length N X) B
+  left-long = ap length left-is ∙ joined-length (returned N (part N X)) (N / 2) (returned-long N (part N X)) B
 
   -- the M coefficients of block b
   part-entry : (b : ℕ) → b < B → (k : ℕ) → k < N / 2 → at (part N X b) k ≡ at X (b * (N / 2) + k)
@@ -71,13 +72,11 @@ module _ (N B Q : ℕ) (routes : ℕ → Route) (x X out : List ℤ) (rec : Reco
   -- the samples of hop b + 1: what the tail of block b and block b + 1 give
   left-at : (b n : ℕ) → suc b < B → n < N / 2 →
       at left (suc b * (N / 2) + n) ≡ clamp (rnd (V′ N (rising N) (falling N) (part N X b) (N / 2 + n) +ℤ V′ N (rising N) (falling N) (part N X (suc b)) n) (N * 2 ^ 30))
-  unfolding synthesis streamAfter
+  unfolding synthesis
   left-at b n p q =
-      let s = streamAfter N X b in
       ap (λ (l : List ℤ). at l (suc b * (N / 2) + n)) left-is
-      ∙ joined-at (λ b. hop (streamAfter N X b) (part N X b)) (N / 2) (hop-length N X) B (suc b) n p q
-      ∙ hop-at N (streamAfter N X (suc b)) (stream-n N X (suc b)) (part N X (suc b)) n q
-      ∙ ap (λ (z : ℤ). clamp (rnd (z +ℤ V′ N (rising N) (falling N) (part N X (suc b)) n) (N * 2 ^ 30))) (next-at N s (stream-n N X b) (part N X b) n q)
+      ∙ joined-at (returned N (part N X)) (N / 2) (returned-long N (part N X)) B (suc b) n p q
+      ∙ returned-at N (part N X) b n q
 
   -- ---- place M + j: hop b + 1, place n
   module _ (j : ℕ) (p : j < (B - 1) * (N / 2)) where
@@ -103,12 +102,12 @@ module _ (N B Q : ℕ) (routes : ℕ → Route) (x X out : List ℤ) (rec : Reco
     unfolding innerOf
     inner-entry = rw (shaped-of N tab B (facts .blocks) (length left) left-long) (getD-drop (N / 2) left j (pos 0) ∙ ap (at left) (sym place))
 
-    inner-near : natAbs (at (innerOf N B left) j -ℤ at x (N / 2 + j)) ≤ (change Q (routes b) (routes (suc b)) + 8) / 16
+    inner-near : natAbs (at (innerOf N B left) j -ℤ at x (N / 2 + j)) ≤ (3 * provedChange Q (routes b) (routes (suc b)) + 36) / 64
     inner-near =
         rw (inner-entry, left-at b n b-less n-less, ← place)
         (back-near N tab (B + 1) x rec Q routes b (part N X b) (part N X (suc b)) (brought b (omega (arith, b-less))) (brought (suc b) b-less) n n-less)
 
-    inner-same : Q ≤ 7 → routes b ≡ Direct → routes (suc b) ≡ Direct → at (innerOf N B left) j ≡ at x (N / 2 + j)
+    inner-same : Q ≤ 9 → routes b ≡ Direct → routes (suc b) ≡ Direct → at (innerOf N B left) j ≡ at x (N / 2 + j)
     inner-same q e f =
         rw (inner-entry, left-at b n b-less n-less, ← place)
         (back-same N tab (B + 1) x rec Q routes b (part N X b) (part N X (suc b)) (brought b (omega (arith, b-less))) (brought (suc b) b-less) q e f n n-less)
@@ -121,20 +120,23 @@ module _ (N B Q : ℕ) (routes : ℕ → Route) (x X out : List ℤ) (rec : Reco
   unfolding innerOf
   whole = rw (shaped-of N tab B (facts .blocks) (length left) left-long)
 
-  pub back : Back N B Q routes x (playedOut N B X out)
+  pub back : Back N B Q routes x (playedOut N B X out) × SharperBack N B Q routes x (playedOut N B X out)
   unfolding left
-  back = record {
-    long = left-long;
-    inner = whole;
-    inner-long = ap length whole ∙ length-drop (N / 2) left ∙ omega (arith, left-long, fewer);
-    near = inner-near;
-    same = λ q j p e f. inner-same j p q e f;
-  }
+  back = (
+    record {
+      long = left-long;
+      inner = whole;
+      inner-long = ap length whole ∙ length-drop (N / 2) left ∙ omega (arith, left-long, fewer);
+      near = λ j p. near-asked Q (routes (j / (N / 2))) (routes (suc (j / (N / 2)))) (inner-near j p);
+      same = λ q j p e f. inner-same j p (omega arith) e f;
+    },
+    record { near = inner-near; same = λ q j p e f. inner-same j p q e f },
+  )
 
--- ---- the theorems
+-- ---- the theorems, each with what is proved beyond it
 -- one call analysed the recording, by either route; a second, which returned 0, synthesised the changed coefficients
 pub back-by-one-call : (N B Q : ℕ) (route : Route) (x X out : List ℤ) → ((i : ℕ) → i < length x → Sample (at x i)) → ByOneCall N B Q route x X →
-    playedCode N B X out ≡ 0 → Back N B Q (λ b. route) x (playedOut N B X out)
+    playedCode N B X out ≡ 0 → Back N B Q (λ b. route) x (playedOut N B X out) × SharperBack N B Q (λ b. route) x (playedOut N B X out)
 unfolding analysis
 back-by-one-call N B Q route x X out samples given played =
     let f : Recorded route N B x (given .buffer) = recorded-facts route N B x (given .buffer) (given .taken) in
@@ -148,7 +150,7 @@ back-by-one-call N B Q route x X out samples given played =
 
 -- the blocks were analysed one by one, each by its own route
 pub back-block-by-block : (N B Q : ℕ) (routes : ℕ → Route) (x X out : List ℤ) → Recording N (B + 1) x → BlockByBlock N B Q routes x X →
-    playedCode N B X out ≡ 0 → Back N B Q routes x (playedOut N B X out)
+    playedCode N B X out ≡ 0 → Back N B Q routes x (playedOut N B X out) × SharperBack N B Q routes x (playedOut N B X out)
 back-block-by-block N B Q routes x X out rec given played =
     back N B Q routes x X out rec played (λ b p. analysed-offered (routes b) N (block N x b) (given .buffer b) (given .taken b p))
     (λ b p k q. rw (← (analyse-taken (routes b) N (block N x b) (given .buffer b) (given .taken b p) .1)) at (given .near b p k q))

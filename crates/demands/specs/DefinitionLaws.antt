@@ -8,38 +8,41 @@ use native.Mathlib.Decide.{decLt}
 use lib.Dec.{T}
 use lib.ListN.{length}
 use lib.IntN.{ℤ, pos, natAbs, _+ℤ_, _-ℤ_}
-use Rattle.arithmetic.specs.Rounding.{rnd, clamp}
-use Rattle.arithmetic.specs.RoundingLaws.{Sample, sample-abs}
+use Rattle.arithmetic.specs.Rounding.{rnd, clamp, Sample}
+use Rattle.arithmetic.specs.RoundingLaws.{sample-abs}
 use Rattle.arithmetic.specs.Lists.{at}
 use Rattle.arithmetic.specs.ListLaws.{getD-table, part-length}
-use Rattle.arithmetic.specs.TestLaws.{cond-lt, cond-ge}
+use Rattle.arithmetic.specs.TestLaws.{cond-lt, cond-ge, is-T}
 use Rattle.cosine.specs.Kernels.{tabled, W, rising, falling}
 use Rattle.cosine.specs.LengthLaws.{length-of, part-of}
 use Rattle.transform.specs.Analysis as A
 use Rattle.transform.specs.Synthesis as Y
 use Rattle.transform.specs.SizeLaws.{y-size}
 use Rattle.transform.specs.DirectLaws.{S-ext}
-use Rattle.short_route.specs.ShortRoute.{shortX, short, units}
-use Rattle.short_route.specs.ShortRoute as R
-use Rattle.short_route.specs.ShortLaws.{middle-exact, within-16}
-use Rattle.short_route.specs.ShortStepLaws.{short-ext}
+use Rattle.split.specs.ShortRoute.{shortX, short, units}
+use Rattle.split.specs.ShortRoute as R
+use Rattle.split.specs.ShortLaws.{middle-exact, within-16}
+use Rattle.split.specs.ShortStepLaws.{short-ext}
 use Rattle.stream.specs.declared.Stream.{Stream}
-use Rattle.stream.specs.Steps.{hop}
+use Rattle.stream.specs.Steps.{hop, streamAfter, returned}
 use Rattle.stream.specs.StepLaws.{rising-size, falling-size}
 use Rattle.stream.specs.NextLaws.{hop-long, hop-at, next-n, next-at, next-kept}
-use Rattle.recording.specs.declared.Route.{Route}
-use Rattle.recording.specs.declared.Route.the-variants.{Direct, Short}
-use Rattle.recording.specs.Analysis.{offered, coefficients, block}
-use Rattle.recording.specs.Recordings.{joined, part, streamAfter, analysis, synthesis}
+use Rattle.analysis.specs.declared.Route.{Route}
+use Rattle.analysis.specs.declared.Route.the-variants.{Direct, Short}
+use Rattle.analysis.specs.Analysis.{offered, coefficients}
+use Rattle.recording.specs.Recordings.{block, joined, part, analysis, synthesis}
 use Rattle.recording.specs.JoinLaws.{within, joined-length, joined-part}
-use Rattle.recording.specs.RecordingLaws.{offered-tabled, coefficients-length, part-length-is, part-range, stream-fine}
-use Rattle.filter_bank.specs.declared.Made.{Made}
-use Rattle.filter_bank.specs.Analysis.{analyseCode, analyseOut}
-use Rattle.filter_bank.specs.AnalysisLaws.{analysed-offered, analyse-0, analyse-taken}
-use Rattle.filter_bank.specs.StreamLaws.{is-T}
-use Rattle.filter_bank.specs.Streams.{tailLimit, stepCode}
-use Rattle.filter_bank.specs.Recordings.{recordedCode, recordedOut, playedCode}
-use Rattle.filter_bank.specs.RecordingLaws.{recorded-facts, recorded-taken, Played, played-facts, played-taken}
+use Rattle.analysis.specs.AnalysisLaws.{offered-tabled, coefficients-length}
+use Rattle.recording.specs.RecordingLaws.{part-length-is, part-range, stream-fine}
+use Rattle.stream_calls.specs.declared.Made.{Made}
+use Rattle.block_calls.specs.Analysis.{analyseCauses, analyseCode, analyseOut}
+use Rattle.checks.specs.Causes.First.{none, pass}
+use Rattle.checks.specs.CauseLaws.{same}
+use Rattle.block_calls.specs.AnalysisLaws.{analysed-offered, analyse-answer, analyse-taken}
+use Rattle.checks.specs.Limits.{tailLimit}
+use Rattle.stream_calls.specs.Streams.{stepCode}
+use Rattle.recording_calls.specs.Recordings.{recordedCode, recordedOut, playedCode}
+use Rattle.recording_calls.specs.RecordingLaws.{recorded-facts, recorded-taken, Played, played-facts, played-taken}
 use Rattle.demands.specs.StepLaws.{taken-stream, taken-buffer}
 use Rattle.demands.specs.RecordingLaws.{windowed, by-direct, by-short}
 use Rattle.demands.specs.Steps.{Offer, Turn, answered, run, turns, Entry}
@@ -98,7 +101,7 @@ module _ (N : ℕ) (x out : List ℤ) (k : ℕ) (p : k < N / 2) where
     short-is =
         short-at
         ∙ sym (getD-table (shortX N (windowed N x)) (pos 0) (N / 2) k p)
-        ∙ ap (λ (l : List ℤ). at l k) (short-ext N short-offered (windowed N x) (y N x) (λ n q. y-is N x n))
+        ∙ ap (λ (l : List ℤ). at l k) (short-ext N (windowed N x) (y N x) (λ n q. y-is N x n))
         ∙ getD-table (shortX N (y N x)) (pos 0) (N / 2) k p
 
     short-near : ((n : ℕ) → n < N → Sample (at x n)) → natAbs (at (analyseOut Short N x out) k -ℤ X N x k) ≤ units
@@ -125,7 +128,7 @@ stepped-on s x out e = record {
 
 -- ---- a recording is its blocks, analysed one by one
 recorded-on : (route : Route) (N B : ℕ) (x out : List ℤ) → recordedCode route N B x out ≡ 0 → Recorded-on route N B x out
-unfolding analysis part block
+unfolding analysis part block analyseCauses
 recorded-on route N B x out e =
     let f = recorded-facts route N B x out e in
     let t = offered-tabled route N (is-T (f .offers)) in
@@ -136,7 +139,7 @@ recorded-on route N B x out e =
       long = rw is (joined-length g (N / 2) size B);
       each = λ b p room l.
           let h : b * (N / 2) + N ≤ length x = omega (arith, f .long, within b B (N / 2) p, add-mul B 1 (N / 2), one-mul (N / 2), length-of N t .twelve) in
-          let z = analyse-0 route N (block N x b) room (f .offers) (part-length x (b * (N / 2)) N N refl h) l in
+          let z = sym (analyse-answer route N (block N x b) room (pass (f .offers) (same (part-length x (b * (N / 2)) N N refl h) (same l none))) .0) in
           (z, rw is (joined-part g (N / 2) size B b p) ∙ analyse-taken route N (block N x b) room z .1);
     }
 
@@ -149,10 +152,10 @@ module _ (N B : ℕ) (x out : List ℤ) (e : playedCode N B x out ≡ 0) (rooms 
   offer-at b = record { brought = part N x b; buffer = rooms b }
 
   -- block b is taken by the stream after b steps
-  taken-at : (b : ℕ) → b < B → code (streamAfter N x b) (offer-at b) ≡ 0
+  taken-at : (b : ℕ) → b < B → code (streamAfter N (part N x) b) (offer-at b) ≡ 0
   unfolding offer-at tailLimit
   taken-at b p =
-      let s = streamAfter N x b in
+      let s = streamAfter N (part N x) b in
       let fine = stream-fine N (facts .length-is) B x (facts .long) (facts .range) b (omega arith) in
       let l = part-length-is N (facts .length-is) B x (facts .long) (facts .range) b p in
       demand-1 .stepped s (part N x b) (rooms b) .taken (rw (fine .n-is) (facts .length-is)) (sound-tail s (fine .n-is) (fine .limited)) (rw (fine .n-is) l) (rw (fine .n-is) (fit b p))
@@ -161,24 +164,24 @@ module _ (N B : ℕ) (x out : List ℤ) (e : playedCode N B x out ≡ 0) (rooms 
       sound-tail : (s : Stream) → s .n ≡ N → ((n : ℕ) → n < N / 2 → natAbs (at (s .tail) n) ≤ N / 2 * 2 ^ 55) → SoundTail s
       sound-tail s i h = record { each = rw i h }
 
-  output-is : (b : ℕ) → b < B → answered (streamAfter N x b) (offer-at b) .output ≡ hop (streamAfter N x b) (part N x b)
-  unfolding answered offer-at
-  output-is b p = taken-buffer (streamAfter N x b) (part N x b) (rooms b) (taken-at b p)
+  output-is : (b : ℕ) → b < B → answered (streamAfter N (part N x) b) (offer-at b) .output ≡ returned N (part N x) b
+  unfolding answered offer-at returned
+  output-is b p = taken-buffer (streamAfter N (part N x) b) (part N x b) (rooms b) (taken-at b p)
 
-  stream-is : (b : ℕ) → b < B → answered (streamAfter N x b) (offer-at b) .answer .stream ≡ streamAfter N x (suc b)
+  stream-is : (b : ℕ) → b < B → answered (streamAfter N (part N x) b) (offer-at b) .answer .stream ≡ streamAfter N (part N x) (suc b)
   unfolding answered offer-at streamAfter
-  stream-is b p = taken-stream (streamAfter N x b) (part N x b) (rooms b) (taken-at b p)
+  stream-is b p = taken-stream (streamAfter N (part N x) b) (part N x b) (rooms b) (taken-at b p)
 
   -- the steps from block b on
   from : ℕ → ℕ → List Turn
-  from b count = run (streamAfter N x b) (offering N x rooms b count)
+  from b count = run (streamAfter N (part N x) b) (offering N x rooms b count)
 
-  from-next : (b count : ℕ) → b < B → from b (suc count) ≡ answered (streamAfter N x b) (offer-at b) ∷ from (suc b) count
+  from-next : (b count : ℕ) → b < B → from b (suc count) ≡ answered (streamAfter N (part N x) b) (offer-at b) ∷ from (suc b) count
   unfolding from offering run offer-at
-  from-next b count p = ap (λ (s : Stream). answered (streamAfter N x b) (offer-at b) ∷ run s (offering N x rooms (suc b) count)) (stream-is b p)
+  from-next b count p = ap (λ (s : Stream). answered (streamAfter N (part N x) b) (offer-at b) ∷ run s (offering N x rooms (suc b) count)) (stream-is b p)
 
   abbrev hops : ℕ → List ℤ
-  hops b = hop (streamAfter N x b) (part N x b)
+  hops = returned N (part N x)
 
   joined-from : (count b : ℕ) → b + count ≡ B → joined B hops ≡ joined b hops ++ outputs (from b count)
   unfolding joined outputs from offering run
@@ -198,8 +201,8 @@ module _ (N B : ℕ) (x out : List ℤ) (e : playedCode N B x out ≡ 0) (rooms 
       less : b < B
       less = omega arith
 
-      go : {us : List Turn} {i : ℕ} {t : Turn} → Entry (answered (streamAfter N x b) (offer-at b) ∷ us) i t → ((i : ℕ) (t : Turn) → Entry us i t → t .answer .code ≡ 0) → t .answer .code ≡ 0
-      go first ih = answered-code (streamAfter N x b) (offer-at b) ∙ taken-at b less
+      go : {us : List Turn} {i : ℕ} {t : Turn} → Entry (answered (streamAfter N (part N x) b) (offer-at b) ∷ us) i t → ((i : ℕ) (t : Turn) → Entry us i t → t .answer .code ≡ 0) → t .answer .code ≡ 0
+      go first ih = answered-code (streamAfter N (part N x) b) (offer-at b) ∙ taken-at b less
       go {t = u} (later {i = k} l) ih = ih k u l
 
   turns-are : turns N (offering N x rooms 0 B) ≡ from 0 B

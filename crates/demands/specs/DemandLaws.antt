@@ -1,8 +1,9 @@
--- The three demands, proved: `demand-1`, `demand-2` and `demand-3` are the records of Demands.
-use Rattle.demands.specs.Demands.{Demand-1, Demand-2, Demand-3}
+-- The three demands, proved: `demand-1`, `demand-2` and `demand-3` are the records of Demands, and `beyond` what is proved beyond the third.
+use Rattle.demands.specs.Demands.{Demand-1, Demand-2, Demand-3, Beyond}
 use Rattle.demands.specs.AnswerLaws as Answers
 use Rattle.demands.specs.DefinitionLaws as Definitions
-use Rattle.demands.specs.ThereAndBackLaws.{there-and-back}
+use Rattle.demands.specs.ThereAndBackLaws.{there-and-back, there-and-back-sharper}
+use Rattle.demands.specs.ChainLaws.{calls-there-and-back, calls-sharper}
 use Rattle.demands.specs.BackLaws.{back-by-one-call, back-block-by-block}
 
 pub demand-1 : Demand-1
@@ -12,4 +13,17 @@ pub demand-2 : Demand-2
 demand-2 = Definitions.demand-2
 
 pub demand-3 : Demand-3
-demand-3 = record { list = there-and-back; once = back-by-one-call; blocks = back-block-by-block }
+demand-3 = record {
+  list = there-and-back;
+  calls = λ N state z H Q routes x rec offers order. calls-there-and-back N state z offers H Q routes x rec order;
+  once = λ N B Q route x c out s g e. back-by-one-call N B Q route x c out s g e .0;
+  blocks = λ N B Q routes x c out r g e. back-block-by-block N B Q routes x c out r g e .0;
+}
+
+pub beyond : Beyond
+beyond = record {
+  list = there-and-back-sharper;
+  calls = λ N state z H Q routes x rec offers order. calls-sharper N state z offers H Q routes x rec order;
+  once = λ N B Q route x c out s g e. back-by-one-call N B Q route x c out s g e .1;
+  blocks = λ N B Q routes x c out r g e. back-block-by-block N B Q routes x c out r g e .1;
+}

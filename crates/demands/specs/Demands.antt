@@ -1,37 +1,50 @@
--- THE THREE DEMANDS, for every signal, over the definitions that the contracts of the public calls cite (filter_bank/specs: Analysis, Streams,
--- Recordings). Each record below is one demand or a part of it; the theorems `demand-1`, `demand-2` and `demand-3` of DemandLaws prove them.
+-- THE THREE DEMANDS, for every signal, over the definitions that the contracts of the public calls cite (specs/ of block_calls, stream_calls,
+-- recording_calls, c_face and listing). Each record below is one demand or a part of it; the theorems `demand-1`, `demand-2` and `demand-3` of DemandLaws prove them.
 --
 -- What the contracts add: a call ends on any numbers and any buffer lengths and never overflows, and what it returns and leaves is what these
--- definitions say. A check of `filter_bank` proves that of the code.
+-- definitions say. A check of the public calls' crates proves that of the code.
 use mathlib.Core.Path.{_≡_}
 use mathlib.Core.Logic.{_≢_}
-use mathlib.Core.List.{List, []}
+use mathlib.Core.List.{List, [], _∷_}
 use Prim.Native.Nat.{ℕ, _+_, _*_, _/_, _^_, _≤_, _<_}
 use lib.Dec.{T}
-use lib.ListN.{length, drop}
-use lib.IntN.{ℤ, natAbs, _+ℤ_, _-ℤ_, _*ℤ_}
-use Rattle.arithmetic.specs.Rounding.{rnd, clamp}
-use Rattle.arithmetic.specs.RoundingLaws.{Sample}
+use lib.ListN.{length, drop, getD}
+use lib.IntN.{ℤ, pos, natAbs, _+ℤ_, _-ℤ_, _*ℤ_}
+use lib.Signed.{_<ℤ_}
+use Rattle.arithmetic.specs.Rounding.{rnd, clamp, Sample}
 use Rattle.arithmetic.specs.Sums.{sum}
 use Rattle.arithmetic.specs.Lists.{at}
 use Rattle.cosine.specs.Kernels.{tabled, W, K}
-use Rattle.short_route.specs.ShortRoute.{shortX, units}
+use Rattle.split.specs.ShortRoute.{shortX, units}
 use Rattle.stream.specs.declared.Stream.{Stream}
 use Rattle.stream.specs.Synthesis as S
-use Rattle.recording.specs.declared.Route.{Route}
-use Rattle.recording.specs.declared.Route.the-variants.{Direct, Short}
-use Rattle.recording.specs.Analysis.{block}
-use Rattle.recording.specs.Recordings.{part}
-use Rattle.filter_bank.specs.Analysis.{analyseCode, analyseOut}
-use Rattle.filter_bank.specs.Streams.{tailLimit, coefficientLimit, fresh, stepCode, step, stepOut, placeCode, placeTail, placeOut}
-use Rattle.filter_bank.specs.Recordings.{blockLimit, recordedCode, recordedOut, playedCode, playedOut, innerFrom, innerOf}
-use Rattle.demands.specs.Steps.{Offer, Turn, Entry, turns, Recording, InOrder, Returned}
-use Rattle.demands.specs.Recordings.{ByOneCall, BlockByBlock, Back, offering, outputs}
+use Rattle.analysis.specs.declared.Route.{Route}
+use Rattle.analysis.specs.declared.Route.the-variants.{Direct, Short}
+use Rattle.analysis.specs.Analysis.{offered}
+use Rattle.recording.specs.Recordings.{block, part}
+use Rattle.block_calls.specs.Analysis.{analyseCode, analyseOut}
+use Rattle.checks.specs.Limits.{tailLimit, coefficientLimit, blockLimit}
+use Rattle.stream_calls.specs.Streams.{fresh, stepCode, step, stepOut, placeCode, placeTail, placeOut}
+use Rattle.recording_calls.specs.Recordings.{recordedCode, recordedOut, playedCode, playedOut, innerFrom, innerOf}
+use Rattle.c_face.specs.Face.{entries, streamIn, freshCode, freshState, stepState, stepCode as stateCode, stepOut as stateOut}
+use Rattle.text.specs.Number.{isNumber, value}
+use Rattle.text.specs.Lines.{lines, remainder}
+use Rattle.listing.specs.Hops.{digits, isHop}
+use Rattle.listing.specs.Verdicts.{limit}
+use Rattle.listing.specs.Print.{refusal}
+use Rattle.listing.specs.Listing.{returnedHops, table, listing}
+use Rattle.listing.specs.SizeLaws.{room}
+use Rattle.demands.specs.Steps.{Offer, Turn, Entry, turns, final, Recording, InOrder, Returned, Sharper}
+use Rattle.demands.specs.Chains.{calls, held}
+use Rattle.demands.specs.Recordings.{ByOneCall, BlockByBlock, Back, SharperBack, offering, outputs}
 
 -- ================ DEMAND 1: the whole work, or the numbered refusal of document 01, with stream and buffers as they were
 -- the causes of document 01's table, in words of the input
 abbrev pub Tabled : ℕ → Type 0
 Tabled N = T (tabled N)
+
+abbrev pub Offered : Route → ℕ → Type 0
+Offered route N = T (offered route N)
 
 pub record Counted (B : ℕ) : Type 0 where
   pub some : 1 ≤ B
@@ -45,10 +58,10 @@ pub record SoundTail (s : Stream) : Type 0 where
 
 -- `analyse`, by either route
 pub record AnalyseAnswers (route : Route) (N : ℕ) (x out : List ℤ) : Type 0 where
-  pub one : ¬ Tabled N → analyseCode route N x out ≡ 1
-  pub two-in : Tabled N → length x ≢ N → analyseCode route N x out ≡ 2
-  pub two-out : Tabled N → length out ≢ N / 2 → analyseCode route N x out ≡ 2
-  pub taken : Tabled N → length x ≡ N → length out ≡ N / 2 → analyseCode route N x out ≡ 0
+  pub one : ¬ Offered route N → analyseCode route N x out ≡ 1
+  pub two-in : Offered route N → length x ≢ N → analyseCode route N x out ≡ 2
+  pub two-out : Offered route N → length out ≢ N / 2 → analyseCode route N x out ≡ 2
+  pub taken : Offered route N → length x ≡ N → length out ≡ N / 2 → analyseCode route N x out ≡ 0
   pub kept : analyseCode route N x out ≢ 0 → analyseOut route N x out ≡ out
 
 -- `fresh`
@@ -73,7 +86,8 @@ abbrev pub streamOf : ℕ → List ℤ → Stream
 streamOf N tail = record { n = N; tail = tail }
 
 pub record PlaceAnswers (N : ℕ) (tail x out : List ℤ) : Type 0 where
-  pub two-tail : length tail ≢ S.storage → placeCode N tail x out ≡ 2
+  pub four-n : ¬ Tabled N → placeCode N tail x out ≡ 4
+  pub two-tail : Tabled N → length tail ≢ S.storage → placeCode N tail x out ≡ 2
   pub same : length tail ≡ S.storage → placeCode N tail x out ≡ stepCode (streamOf N tail) x out
   pub same-tail : length tail ≡ S.storage → placeTail N tail x out ≡ step (streamOf N tail) x out .stream .tail
   pub same-out : length tail ≡ S.storage → placeOut N tail x out ≡ stepOut (streamOf N tail) x out
@@ -82,11 +96,11 @@ pub record PlaceAnswers (N : ℕ) (tail x out : List ℤ) : Type 0 where
 
 -- `analyse_recording`, by either route
 pub record RecordedAnswers (route : Route) (N B : ℕ) (x out : List ℤ) : Type 0 where
-  pub one : ¬ Tabled N → recordedCode route N B x out ≡ 1
-  pub two-blocks : Tabled N → ¬ Counted B → recordedCode route N B x out ≡ 2
-  pub two-in : Tabled N → length x ≢ (B + 1) * (N / 2) → recordedCode route N B x out ≡ 2
-  pub two-out : Tabled N → length out ≢ B * (N / 2) → recordedCode route N B x out ≡ 2
-  pub taken : Tabled N → Counted B → length x ≡ (B + 1) * (N / 2) → length out ≡ B * (N / 2) → recordedCode route N B x out ≡ 0
+  pub one : ¬ Offered route N → recordedCode route N B x out ≡ 1
+  pub two-blocks : Offered route N → ¬ Counted B → recordedCode route N B x out ≡ 2
+  pub two-in : Offered route N → length x ≢ (B + 1) * (N / 2) → recordedCode route N B x out ≡ 2
+  pub two-out : Offered route N → length out ≢ B * (N / 2) → recordedCode route N B x out ≡ 2
+  pub taken : Offered route N → Counted B → length x ≡ (B + 1) * (N / 2) → length out ≡ B * (N / 2) → recordedCode route N B x out ≡ 0
   pub kept : recordedCode route N B x out ≢ 0 → recordedOut route N B x out ≡ out
 
 -- `synthesise_recording`
@@ -99,7 +113,7 @@ pub record PlayedAnswers (N B : ℕ) (x out : List ℤ) : Type 0 where
   pub taken : Tabled N → Counted B → length x ≡ B * (N / 2) → length out ≡ B * (N / 2) → InRange x → playedCode N B x out ≡ 0
   pub kept : playedCode N B x out ≢ 0 → playedOut N B x out ≡ out
 
--- `inner` and `inner_view`: the part, and the place where it starts
+-- `inner`: the part, and the place where it starts. The buffer is lent to be read, so it is as it was
 pub record Empty (N B : ℕ) (out : List ℤ) : Type 0 where
   pub holds : innerOf N B out ≡ []
   pub starts : innerFrom N B (length out) ≡ 0
@@ -110,6 +124,52 @@ pub record InnerAnswers (N B : ℕ) (out : List ℤ) : Type 0 where
   pub empty-long : length out ≢ B * (N / 2) → Empty N B out
   pub part : Tabled N → Counted B → length out ≡ B * (N / 2) → (innerOf N B out ≡ drop (N / 2) out) × (innerFrom N B (length out) ≡ N / 2)
 
+-- the calls for C. Those on blocks and on whole recordings answer as those above: their contracts are the same definitions at a route by name.
+-- `dapplescree_stream_fresh`: taken, the state holds the stream that `fresh` makes
+pub record StateFreshAnswers (N : ℕ) (state : List ℤ) : Type 0 where
+  pub one : ¬ Tabled N → freshCode N state ≡ 1
+  pub two : Tabled N → length state ≢ entries → freshCode N state ≡ 2
+  pub taken : Tabled N → length state ≡ entries → freshCode N state ≡ 0
+  pub holds : freshCode N state ≡ 0 → streamIn (freshState N state) ≡ fresh N .stream
+  pub long : freshCode N state ≡ 0 → length (freshState N state) ≡ entries
+  pub kept : freshCode N state ≢ 0 → freshState N state ≡ state
+
+-- `dapplescree_stream_step`: `step` on the stream that the state holds, which then holds the stream that `step` gives back
+pub record StateStepAnswers (state x out : List ℤ) : Type 0 where
+  pub two-state : length state ≢ entries → stateCode state x out ≡ 2
+  pub same : length state ≡ entries → stateCode state x out ≡ stepCode (streamIn state) x out
+  pub same-stream : length state ≡ entries → streamIn (stepState state x out) ≡ step (streamIn state) x out .stream
+  pub same-out : length state ≡ entries → stateOut state x out ≡ stepOut (streamIn state) x out
+  pub four-negative : length state ≡ entries → at state 0 <ℤ pos 0 → stateCode state x out ≡ 4
+  pub long : length (stepState state x out) ≡ length state
+  pub kept-state : stateCode state x out ≢ 0 → stepState state x out ≡ state
+  pub kept : stateCode state x out ≢ 0 → stateOut state x out ≡ out
+
+-- `listing::round_trip`: what it writes, for any bytes; a refusal is a line. Line 1 is a number that names a tabled N, and further lines stand behind it
+pub record Begun (text : List ℕ) (N : ℕ) (hops : List (List ℕ)) : Type 0 where
+  pub small : length text ≤ limit
+  pub first : List ℕ
+  pub are : lines text ≡ first ∷ hops
+  pub number : T (isNumber digits first)
+  pub named : value first ≡ pos N
+  pub length-is : Tabled N
+
+-- the first H of them are hops of M samples
+pub record Hops (N H : ℕ) (hops : List (List ℕ)) : Type 0 where
+  pub each : (j : ℕ) → j < H → T (isHop (N / 2) (getD hops j []))
+
+pub record ListingAnswers (text : List ℕ) : Type 0 where
+  pub six : limit < length text → listing text ≡ refusal 6 0
+  pub five-none : length text ≤ limit → lines text ≡ [] → listing text ≡ refusal 5 1
+  pub five-first : length text ≤ limit → (first : List ℕ) (hops : List (List ℕ)) → lines text ≡ first ∷ hops → ¬ T (isNumber digits first) → listing text ≡ refusal 5 1
+  pub one : length text ≤ limit → (first : List ℕ) (hops : List (List ℕ)) → lines text ≡ first ∷ hops → T (isNumber digits first) →
+      ((N : ℕ) → value first ≡ pos N → ¬ Tabled N) → listing text ≡ refusal 1 1
+  pub five : (N H : ℕ) (hops : List (List ℕ)) → Begun text N hops → Hops N H hops → H < length hops → ¬ T (isHop (N / 2) (getD hops H [])) → listing text ≡ refusal 5 (H + 2)
+  pub five-last : (N : ℕ) (hops : List (List ℕ)) → Begun text N hops → Hops N (length hops) hops → length (remainder text) ≢ 0 → listing text ≡ refusal 5 (length hops + 2)
+  pub taken : (N : ℕ) (hops : List (List ℕ)) → Begun text N hops → Hops N (length hops) hops → length (remainder text) ≡ 0 →
+      listing text ≡ table N (length hops) (returnedHops N text)
+  pub fits : length (listing text) ≤ room
+
 pub record Demand-1 : Type 0 where
   pub analyse : (route : Route) (N : ℕ) (x out : List ℤ) → AnalyseAnswers route N x out
   pub made : (N : ℕ) → FreshAnswers N
@@ -118,6 +178,9 @@ pub record Demand-1 : Type 0 where
   pub recorded : (route : Route) (N B : ℕ) (x out : List ℤ) → RecordedAnswers route N B x out
   pub played : (N B : ℕ) (x out : List ℤ) → PlayedAnswers N B x out
   pub inner : (N B : ℕ) (out : List ℤ) → InnerAnswers N B out
+  pub state-made : (N : ℕ) (state : List ℤ) → StateFreshAnswers N state
+  pub state-stepped : (state x out : List ℤ) → StateStepAnswers state x out
+  pub listed : (text : List ℕ) → ListingAnswers text
 
 -- ================ DEMAND 2: every coefficient and every sample is document 01's
 -- y(n) = rnd(W(n) × x(n) / 2^18)
@@ -169,10 +232,24 @@ pub record Demand-2 : Type 0 where
 -- ================ DEMAND 3: sound there and back
 pub record Demand-3 : Type 0 where
   -- the list of steps: any recording of two hops or more, any offers, refused ones anywhere, a route for each block, any Q
-  pub list : (N : ℕ) → Tabled N → (H Q : ℕ) (routes : ℕ → Route) (x : List ℤ) → Recording N H x → (offers : List Offer) → InOrder N H Q routes x offers →
-      Returned N Q routes x offers
+  pub list : (N : ℕ) → Tabled N → (H Q : ℕ) (routes : ℕ → Route) (x : List ℤ) → Recording N H x → (offers : List Offer) → InOrder N H Q routes x (turns N offers) →
+      Returned N Q routes x (turns N offers) (final N offers)
+  -- the same for the calls for C on one state
+  pub calls : (N : ℕ) (state : List ℤ) → freshCode N state ≡ 0 → (H Q : ℕ) (routes : ℕ → Route) (x : List ℤ) → Recording N H x → (offers : List Offer) →
+      InOrder N H Q routes x (calls (freshState N state) offers) → Returned N Q routes x (calls (freshState N state) offers) (held (freshState N state) offers)
   -- the calls over whole recordings: analysed by one call, and block by block
   pub once : (N B Q : ℕ) (route : Route) (x c out : List ℤ) → ((i : ℕ) → i < length x → Sample (at x i)) → ByOneCall N B Q route x c → playedCode N B c out ≡ 0 →
       Back N B Q (λ b. route) x (playedOut N B c out)
   pub blocks : (N B Q : ℕ) (routes : ℕ → Route) (x c out : List ℤ) → Recording N (B + 1) x → BlockByBlock N B Q routes x c → playedCode N B c out ≡ 0 →
       Back N B Q routes x (playedOut N B c out)
+
+-- ================ BEYOND DEMAND 3: each sample within (3 Q + 36) / 64, equal up to Q = 9, with Q + 7 for Q after the short route
+pub record Beyond : Type 0 where
+  pub list : (N : ℕ) → Tabled N → (H Q : ℕ) (routes : ℕ → Route) (x : List ℤ) → Recording N H x → (offers : List Offer) → InOrder N H Q routes x (turns N offers) →
+      Sharper N Q routes x (turns N offers)
+  pub calls : (N : ℕ) (state : List ℤ) → freshCode N state ≡ 0 → (H Q : ℕ) (routes : ℕ → Route) (x : List ℤ) → Recording N H x → (offers : List Offer) →
+      InOrder N H Q routes x (calls (freshState N state) offers) → Sharper N Q routes x (calls (freshState N state) offers)
+  pub once : (N B Q : ℕ) (route : Route) (x c out : List ℤ) → ((i : ℕ) → i < length x → Sample (at x i)) → ByOneCall N B Q route x c → playedCode N B c out ≡ 0 →
+      SharperBack N B Q (λ b. route) x (playedOut N B c out)
+  pub blocks : (N B Q : ℕ) (routes : ℕ → Route) (x c out : List ℤ) → Recording N (B + 1) x → BlockByBlock N B Q routes x c → playedCode N B c out ≡ 0 →
+      SharperBack N B Q routes x (playedOut N B c out)

@@ -3,8 +3,8 @@
 use mathlib.Core.List.{List, [], _∷_, _++_}
 use Prim.Native.Nat.{ℕ, zero, suc}
 use lib.IntN.{ℤ, pos, negℤ, _+ℤ_}
-use Rattle.recording.specs.declared.Route.{Route}
-use Rattle.recording.specs.declared.Route.the-variants.{Direct, Short}
+use Rattle.analysis.specs.declared.Route.{Route}
+use Rattle.analysis.specs.declared.Route.the-variants.{Direct, Short}
 use Rattle.demands.specs.Steps.{Offer}
 
 abbrev pub minus : ℕ → ℤ

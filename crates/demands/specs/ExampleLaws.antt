@@ -6,7 +6,7 @@ use mathlib.Core.List.{List, [], _∷_}
 use Prim.Native.Nat.{ℕ, _+_, _*_, _≤_, _<_}
 use native.Mathlib.Omega.{arith}
 use lib.Dec.{T, eqb, eqb→eq, leb, leb→le, lit<, lit≤}
-use lib.ListN.{length, take, drop, getD-replicate}
+use lib.ListN.{length, take, drop, replicate, getD-replicate}
 use lib.Seq.{ext-getD, getD-take, getD-drop}
 use lib.IntN.{ℤ, pos, natAbs, _-ℤ_}
 use lib.Signed.{leZ, leZ-yes}
@@ -17,19 +17,25 @@ use Rattle.arithmetic.specs.TestLaws.{all-at, both-left, both-right}
 use Rattle.cosine.specs.Cosine.{top, bottom, factorial, denominator, term, signed, series, firstQuarter, reduced, toHalf, toTurn, continued, C}
 use Rattle.cosine.specs.Kernels.{lengths, tabled, W, rising, falling, K, L, s, eB, fB, eC, fC, turned}
 use Rattle.transform.specs.Analysis.{window, y, S, X, direct}
-use Rattle.short_route.specs.ShortRoute as R
+use Rattle.split.specs.ShortRoute as R
 use Rattle.transform.specs.Synthesis.{U, V′}
 use Rattle.stream.specs.Synthesis as Y
-use Rattle.recording.specs.Analysis.{offered, spectrum, coefficients, block}
+use Rattle.analysis.specs.Analysis.{offered, spectrum, coefficients}
+use Rattle.recording.specs.Recordings.{block}
 use Rattle.stream.specs.Steps.{next, hop}
-use Rattle.filter_bank.specs.Analysis.{analyseCode, analyseOut}
-use Rattle.filter_bank.specs.Recordings.{counted, playedCode, playedOut}
-use Rattle.filter_bank.specs.Streams.{within, tailLimit, fresh, soundTail, sound, inRange, stepCode, step, stepOut}
-use Rattle.demands.specs.Steps.{Offer, Turn, answered, run, taken, offers-of, turns, Entry, Recording, Brought, InOrder, change, Returned}
+use Rattle.checks.specs.Causes.{firstCause}
+use Rattle.block_calls.specs.Analysis.{analyseCauses, analyseCode, analyseOut}
+use Rattle.checks.specs.Limits.{counted, within, tailLimit, inRange}
+use Rattle.recording_calls.specs.Recordings.{playedCauses, playedCode, playedOut}
+use Rattle.stream_calls.specs.Streams.{fresh, soundTail, sound, stepCauses, stepCode, step, stepOut}
+use Rattle.c_face.specs.Face.{entries, freshCauses, freshCode, freshState}
+use Rattle.demands.specs.Steps.{Offer, Turn, answered, run, taken, offers-of, turns, final, Entry, Recording, Brought, InOrder, unitsOf, change, Returned, Sharper}
 use Rattle.demands.specs.Steps.Entry.{first, later}
 use Rattle.demands.specs.RunLaws.{no-entry, entry-offer, entry-turn}
 use Rattle.demands.specs.Recordings.{BlockByBlock, Back}
-use Rattle.demands.specs.ThereAndBackLaws.{there-and-back}
+use Rattle.demands.specs.Chains.{calls, held}
+use Rattle.demands.specs.ThereAndBackLaws.{there-and-back, there-and-back-sharper}
+use Rattle.demands.specs.ChainLaws.{fresh-calls, calls-there-and-back}
 use Rattle.demands.specs.BackLaws.{back-block-by-block}
 use Rattle.demands.specs.Example.{minus, recording, routes, changed, block-0, block-1, block-2, room, small-room, five, loud, low, offer, offers, whole, hops-room}
 
@@ -43,7 +49,7 @@ unfolding window y S X direct R.a R.b R.c R.e R.f R.rB R.rC R.A R.B R.G R.D R.sh
 analysis = tt
 
 synthesis : Unit {0}
-unfolding U V′ Y.fresh Y.sample Y.hop Y.newTail within tailLimit fresh soundTail sound inRange stepCode next hop step stepOut
+unfolding U V′ Y.fresh Y.sample Y.hop Y.newTail within tailLimit fresh soundTail sound inRange firstCause stepCauses stepCode next hop step stepOut
 synthesis = tt
 
 example : Unit {0}
@@ -55,7 +61,7 @@ unfolding floor rnd clamp sum table all every cosines analysis synthesis example
 computed = tt
 
 answers : Unit {0}
-unfolding computed R.offered offered analyseCode analyseOut counted playedCode whole hops-room
+unfolding computed R.offered offered analyseCauses analyseCode analyseOut counted playedCauses playedCode whole hops-room
 answers = tt
 
 -- the numbers that the steps return
@@ -116,7 +122,7 @@ brought b c p o e t =
     record { covered = p; offers = o; long = e; near = λ k q. leb→le (off k) 7 (all-at 6 (λ k. leb (off k) 7) t k q) }
 
 -- the taken steps bring blocks 0, 1 and 2
-in-order : InOrder 12 4 7 routes recording offers
+in-order : InOrder 12 4 7 routes recording (turns 12 offers)
 in-order = record { each = λ j t e. go (rw taken-offers at (entry-offer e)) }
   where
     go : {j : ℕ} {o : Offer} → Entry (offer block-0 room ∷ offer block-1 room ∷ offer block-2 room ∷ []) j o → Brought 12 4 7 routes recording j (o .brought)
@@ -130,8 +136,23 @@ twelve : T (tabled 12)
 unfolding computed
 twelve = tt
 
-pub returned : Returned 12 7 routes recording offers
+pub returned : Returned 12 7 routes recording (turns 12 offers) (final 12 offers)
 returned = there-and-back 12 twelve 4 7 routes recording recorded offers in-order
+
+-- and beyond what is asked
+pub sharper : Sharper 12 7 routes recording (turns 12 offers)
+sharper = there-and-back-sharper 12 twelve 4 7 routes recording recorded offers in-order
+
+-- ---- the same offers to the calls for C, on a state that held nines
+pub nines : List ℤ
+nines = replicate entries (pos 9)
+
+made : freshCode 12 nines ≡ 0
+unfolding answers freshCauses freshCode nines
+made = refl
+
+pub on-a-state : Returned 12 7 routes recording (calls (freshState 12 nines) offers) (held (freshState 12 nines) offers)
+on-a-state = calls-there-and-back 12 nines made offers 4 7 routes recording recorded (rw (fresh-calls 12 nines made offers) in-order)
 
 -- ---- what it says of two of the taken steps
 -- the taken step j, at which o was offered, and what is claimed of its output
@@ -163,7 +184,7 @@ hop-1 = taken-step 1 (offer block-1 room) (λ out. out ≡ take 6 (drop 6 record
 
 -- the step that brings block 2, by the short route, returns hop 2 up to 1
 pub hop-2 : TakenStep 2 (offer block-2 room) (λ out. (n : ℕ) → n < 6 → natAbs (at out n -ℤ pos 5) ≤ 1)
-unfolding recording routes change
+unfolding recording routes unitsOf change
 hop-2 = taken-step 2 (offer block-2 room) (λ out. (n : ℕ) → n < 6 → natAbs (at out n -ℤ pos 5) ≤ 1) (later (later first))
     (λ t e n p. rw (six-at 12 n p, getD-replicate 6 n (pos 5) (pos 0) p) at (returned .hop-near 1 t e n p))
 
@@ -191,4 +212,4 @@ by-blocks = record {
 }
 
 pub back : Back 12 3 7 routes recording (playedOut 12 3 whole hops-room)
-back = back-block-by-block 12 3 7 routes recording whole hops-room recorded by-blocks played
+back = back-block-by-block 12 3 7 routes recording whole hops-room recorded by-blocks played .0

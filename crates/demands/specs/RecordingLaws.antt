@@ -1,51 +1,61 @@
 -- Laws of the blocks of a recording: two that follow each other share a hop, and what is brought for one is near its direct coefficients.
 use mathlib.Core.Path.{_≡_, _∙_}
 use mathlib.Core.List.{List}
-use Prim.Native.Nat.{ℕ, suc, _+_, _*_, _/_, _≤_, _<_, _^_}
-use native.Mathlib.Nat.{le-trans, mul-le-mul-right}
+use Prim.Native.Nat.{ℕ, suc, _+_, _*_, _/_, _≤_, _<_, _^_, max}
+use native.Mathlib.Nat.{le-trans, mul-le-mul-right, le-max-left, le-max-right, max-le}
 use native.Mathlib.Omega.{arith}
 use lib.Dec.{T}
 use lib.ListN.{length, drop}
 use lib.Seq.{getD-take, getD-drop}
 use lib.IntN.{ℤ, pos, natAbs, _-ℤ_, _+ℤ_}
 use Rattle.arithmetic.specs.Lists.{at}
-use Rattle.arithmetic.specs.Rounding.{rnd, clamp}
+use Rattle.arithmetic.specs.Rounding.{rnd, clamp, Sample}
 use Rattle.arithmetic.specs.ListLaws.{getD-table}
 use Rattle.arithmetic.specs.OrderLaws.{abs-via}
-use Rattle.arithmetic.specs.RoundingLaws.{Sample, sample-abs}
+use Rattle.arithmetic.specs.RoundingLaws.{sample-abs}
 use Rattle.cosine.specs.Kernels.{tabled, rising, falling}
 use Rattle.cosine.specs.LengthLaws.{Part, part-of}
 use Rattle.transform.specs.Analysis.{y, X, direct}
-use Rattle.short_route.specs.ShortRoute.{shortX, short}
+use Rattle.split.specs.ShortRoute.{shortX, short}
 use Rattle.transform.specs.Synthesis.{V′}
 use Rattle.transform.specs.SizeLaws.{y-size}
-use Rattle.short_route.specs.ShortLaws.{within-16}
+use Rattle.split.specs.ShortLaws.{within-7}
 use Rattle.stream.specs.StepLaws.{rising-size, falling-size}
 use Rattle.reconstruction.specs.Neighbours.{Neighbours}
+use Rattle.reconstruction.specs.ReturnLaws.{by-asked}
 use Rattle.reconstruction.specs.DistanceLaws.{sine-neighbours, returned-each, returned-same}
-use Rattle.recording.specs.declared.Route.{Route}
-use Rattle.recording.specs.declared.Route.the-variants.{Direct, Short}
-use Rattle.recording.specs.Analysis.{offered, spectrum, coefficients, block}
-use Rattle.demands.specs.Steps.{Recording, Brought, change}
+use Rattle.analysis.specs.declared.Route.{Route}
+use Rattle.analysis.specs.declared.Route.the-variants.{Direct, Short}
+use Rattle.analysis.specs.Analysis.{offered, spectrum, coefficients}
+use Rattle.recording.specs.Recordings.{block}
+use Rattle.demands.specs.Steps.{Recording, Brought, unitsOf, change, provedUnits, provedChange}
 
--- ---- the change that is allowed where two blocks meet is no less than that of each
-pub change-first : (Q : ℕ) (r r′ : Route) → change Q r r ≤ change Q r r′
-unfolding change
-change-first Q Direct Direct = omega arith
-change-first Q Direct Short = omega arith
-change-first Q Short Direct = omega arith
-change-first Q Short Short = omega arith
+-- ---- the change where two blocks meet is no less than that of each, and no more than what is asked
+pub change-first : (Q : ℕ) (r r′ : Route) → Q + provedUnits r ≤ provedChange Q r r′
+unfolding provedChange
+change-first Q r r′ = omega (arith, le-max-left (provedUnits r) (provedUnits r′))
 
-pub change-second : (Q : ℕ) (r r′ : Route) → change Q r′ r′ ≤ change Q r r′
-unfolding change
-change-second Q Direct Direct = omega arith
-change-second Q Direct Short = omega arith
-change-second Q Short Direct = omega arith
-change-second Q Short Short = omega arith
+pub change-second : (Q : ℕ) (r r′ : Route) → Q + provedUnits r′ ≤ provedChange Q r r′
+unfolding provedChange
+change-second Q r r′ = omega (arith, le-max-right (provedUnits r) (provedUnits r′))
 
-pub change-direct : (Q : ℕ) (r r′ : Route) → r ≡ Direct → r′ ≡ Direct → change Q r r′ ≡ Q
-unfolding change
-change-direct Q r r′ e f = rw (e, f)
+units-asked : (r : Route) → provedUnits r ≤ unitsOf r
+unfolding provedUnits unitsOf
+units-asked Direct = omega arith
+units-asked Short = omega arith
+
+pub change-asked : (Q : ℕ) (r r′ : Route) → provedChange Q r r′ ≤ change Q r r′
+unfolding provedChange change
+change-asked Q r r′ =
+    let m = max (unitsOf r) (unitsOf r′) in
+    let h : max (provedUnits r) (provedUnits r′) ≤ m =
+    max-le (le-trans (units-asked r) (le-max-left (unitsOf r) (unitsOf r′))) (le-trans (units-asked r′) (le-max-right (unitsOf r) (unitsOf r′)))
+    in
+    omega arith
+
+pub change-direct : (Q : ℕ) (r r′ : Route) → r ≡ Direct → r′ ≡ Direct → provedChange Q r r′ ≡ Q
+unfolding provedChange provedUnits
+change-direct Q r r′ e f = rw (e, f) (omega arith)
 
 -- the block x, windowed
 abbrev pub windowed : ℕ → List ℤ → ℕ → ℤ
@@ -62,11 +72,11 @@ module _ (N : ℕ) (x : List ℤ) (k : ℕ) (p : k < N / 2) where
   by-short = getD-table (shortX N (windowed N x)) (pos 0) (N / 2) k p
 
 pub near-direct : (N : ℕ) (x : List ℤ) → ((n : ℕ) → n < N → natAbs (windowed N x n) ≤ 2 ^ 23) →
-    (Q : ℕ) (route : Route) → T (offered route N) → (c : ℤ) (k : ℕ) → k < N / 2 → natAbs (c -ℤ at (coefficients route N x) k) ≤ Q → natAbs (c -ℤ X N (windowed N x) k) ≤ change Q route route
-unfolding change offered
-near-direct N x y≤ Q Direct o c k p h = rw (by-direct N x k p) at h
+    (Q : ℕ) (route : Route) → T (offered route N) → (c : ℤ) (k : ℕ) → k < N / 2 → natAbs (c -ℤ at (coefficients route N x) k) ≤ Q → natAbs (c -ℤ X N (windowed N x) k) ≤ Q + provedUnits route
+unfolding provedUnits offered
+near-direct N x y≤ Q Direct o c k p h = omega (arith, rw (by-direct N x k p) at h)
 near-direct N x y≤ Q Short o c k p h =
-    abs-via c (shortX N (windowed N x) k) (X N (windowed N x) k) (rw (by-short N x k p) at h) (within-16 N o (windowed N x) y≤ k p)
+    abs-via c (shortX N (windowed N x) k) (X N (windowed N x) k) (rw (by-short N x k p) at h) (within-7 N o (windowed N x) y≤ k p)
 
 module _ (N : ℕ) (t : T (tabled N)) (H : ℕ) (x : List ℤ) (rec : Recording N H x) where
   len : Part N
@@ -98,7 +108,7 @@ module _ (N : ℕ) (t : T (tabled N)) (H : ℕ) (x : List ℤ) (rec : Recording 
   -- ---- the hop that they share
   module _ (Q : ℕ) (routes : ℕ → Route) (b : ℕ) (c₁ c₂ : List ℤ) (brought₁ : Brought N H Q routes x b c₁) (brought₂ : Brought N H Q routes x (suc b) c₂) where
     abbrev Q′ : ℕ
-    Q′ = change Q (routes b) (routes (suc b))
+    Q′ = provedChange Q (routes b) (routes (suc b))
 
     -- the sample that comes back at place n
     abbrev back : ℕ → ℤ
@@ -113,10 +123,14 @@ module _ (N : ℕ) (t : T (tabled N)) (H : ℕ) (x : List ℤ) (rec : Recording 
     near₂ : (k : ℕ) → k < N / 2 → natAbs (at c₂ k -ℤ X N (windowed N (block N x (suc b))) k) ≤ Q′
     near₂ k p = le-trans (near-direct N (block N x (suc b)) (windowed-size (suc b) (brought₂ .covered)) Q (routes (suc b)) (brought₂ .offers) (at c₂ k) k p (brought₂ .near k p)) (change-second Q (routes b) (routes (suc b)))
 
-    pub back-near : (n : ℕ) → n < N / 2 → natAbs (back n -ℤ at x (suc b * (N / 2) + n)) ≤ (Q′ + 8) / 16
+    pub back-near : (n : ℕ) → n < N / 2 → natAbs (back n -ℤ at x (suc b * (N / 2) + n)) ≤ (3 * Q′ + 36) / 64
     back-near n p = rw (← (block-at (suc b) n (omega arith))) (returned-each N t nb Q′ c₁ c₂ near₁ near₂ n p)
 
-    pub back-same : Q ≤ 7 → routes b ≡ Direct → routes (suc b) ≡ Direct → (n : ℕ) → n < N / 2 → back n ≡ at x (suc b * (N / 2) + n)
+    pub back-same : Q ≤ 9 → routes b ≡ Direct → routes (suc b) ≡ Direct → (n : ℕ) → n < N / 2 → back n ≡ at x (suc b * (N / 2) + n)
     back-same q e f n p =
-        let g : Q′ ≤ 7 = rw (change-direct Q (routes b) (routes (suc b)) e f) q in
+        let g : Q′ ≤ 9 = rw (change-direct Q (routes b) (routes (suc b)) e f) q in
         rw (← (block-at (suc b) n (omega arith))) (returned-same N t nb Q′ c₁ c₂ near₁ near₂ g n p)
+
+-- ---- the sharper claims give those that are asked
+pub near-asked : (Q : ℕ) (r r′ : Route) {d : ℕ} → d ≤ (3 * provedChange Q r r′ + 36) / 64 → d ≤ (change Q r r′ + 8) / 16
+near-asked Q r r′ h = le-trans h (by-asked (provedChange Q r r′) (change Q r r′) (change-asked Q r r′))

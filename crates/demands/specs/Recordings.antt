@@ -6,13 +6,12 @@ use Prim.Native.Nat.{ℕ, zero, suc, _+_, _-_, _*_, _/_, _≤_, _<_}
 use lib.ListN.{length, drop}
 use lib.IntN.{ℤ, natAbs, _-ℤ_}
 use Rattle.arithmetic.specs.Lists.{at}
-use Rattle.recording.specs.declared.Route.{Route}
-use Rattle.recording.specs.declared.Route.the-variants.{Direct}
-use Rattle.recording.specs.Analysis.{block}
-use Rattle.recording.specs.Recordings.{part}
-use Rattle.filter_bank.specs.Analysis.{analyseCode, analyseOut}
-use Rattle.filter_bank.specs.Recordings.{recordedCode, recordedOut, innerOf}
-use Rattle.demands.specs.Steps.{Offer, Turn, change}
+use Rattle.analysis.specs.declared.Route.{Route}
+use Rattle.analysis.specs.declared.Route.the-variants.{Direct}
+use Rattle.recording.specs.Recordings.{block, part}
+use Rattle.block_calls.specs.Analysis.{analyseCode, analyseOut}
+use Rattle.recording_calls.specs.Recordings.{recordedCode, recordedOut, innerOf}
+use Rattle.demands.specs.Steps.{Offer, Turn, change, provedChange}
 
 -- ---- what the synthesis is handed: X, of all blocks of the recording x, each coefficient changed by a whole number from -Q to Q
 -- analysed by one call, which left the coefficients in `buffer`
@@ -35,6 +34,11 @@ pub record Back (N B Q : ℕ) (routes : ℕ → Route) (x out : List ℤ) : Type
   pub inner-long : length (innerOf N B out) ≡ (B - 1) * (N / 2)
   pub near : (j : ℕ) → j < (B - 1) * (N / 2) → natAbs (at (innerOf N B out) j -ℤ at x (N / 2 + j)) ≤ (change Q (routes (j / (N / 2))) (routes (suc (j / (N / 2)))) + 8) / 16
   pub same : Q ≤ 7 → (j : ℕ) → j < (B - 1) * (N / 2) → routes (j / (N / 2)) ≡ Direct → routes (suc (j / (N / 2))) ≡ Direct → at (innerOf N B out) j ≡ at x (N / 2 + j)
+
+-- beyond what is asked, of the same buffer
+pub record SharperBack (N B Q : ℕ) (routes : ℕ → Route) (x out : List ℤ) : Type 0 where
+  pub near : (j : ℕ) → j < (B - 1) * (N / 2) → natAbs (at (innerOf N B out) j -ℤ at x (N / 2 + j)) ≤ (3 * provedChange Q (routes (j / (N / 2))) (routes (suc (j / (N / 2)))) + 36) / 64
+  pub same : Q ≤ 9 → (j : ℕ) → j < (B - 1) * (N / 2) → routes (j / (N / 2)) ≡ Direct → routes (suc (j / (N / 2))) ≡ Direct → at (innerOf N B out) j ≡ at x (N / 2 + j)
 
 -- ---- the steps that a synthesis stands for: block after block of X, from block b on, count of them, each with a buffer of its own
 unfoldable pub offering : ℕ → List ℤ → (ℕ → List ℤ) → ℕ → ℕ → List Offer

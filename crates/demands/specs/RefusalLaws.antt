@@ -6,7 +6,7 @@ use mathlib.Core.List.{List, [], _∷_, _++_}
 use native.Mathlib.Decide.{ℕ-discrete}
 use lib.IntN.{ℤ}
 use Rattle.stream.specs.declared.Stream.{Stream}
-use Rattle.filter_bank.specs.Streams.{stepCode, step, stepOut}
+use Rattle.stream_calls.specs.Streams.{stepCode, step, stepOut}
 use Rattle.demands.specs.Steps.{Offer, Turn, answered, run, after, taken, offers-of}
 use Rattle.demands.specs.StepLaws as L
 use Rattle.demands.specs.RunLaws.{code, run-taken, run-refused, after-refused}

@@ -6,7 +6,7 @@ use Prim.Native.Nat.{ℕ, suc}
 use native.Mathlib.Omega.{arith}
 use native.Mathlib.Decide.{ℕ-discrete}
 use Rattle.stream.specs.declared.Stream.{Stream}
-use Rattle.filter_bank.specs.Streams.{stepCode, step}
+use Rattle.stream_calls.specs.Streams.{stepCode, step}
 use Rattle.demands.specs.Steps.{Offer, Turn, answered, run, after, taken, offers-of, Entry}
 use Rattle.demands.specs.Steps.Entry.{first, later}
 use Rattle.demands.specs.StepLaws as L

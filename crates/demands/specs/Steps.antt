@@ -4,20 +4,21 @@ use mathlib.Core.Path.{_≡_}
 use mathlib.Core.Logic.{_≢_}
 use mathlib.Core.Bool.{cond}
 use mathlib.Core.List.{List, [], _∷_}
-use Prim.Native.Nat.{ℕ, suc, _+_, _-_, _*_, _/_, _≤_, _<_}
+use Prim.Native.Nat.{ℕ, suc, _+_, _-_, _*_, _/_, _≤_, _<_, max}
 use lib.Dec.{T, eqb}
 use lib.ListN.{length, drop, replicate}
 use lib.IntN.{ℤ, pos, natAbs, _-ℤ_}
 use Rattle.arithmetic.specs.Lists.{at}
-use Rattle.arithmetic.specs.RoundingLaws.{Sample}
-use Rattle.short_route.specs.ShortRoute.{units}
+use Rattle.arithmetic.specs.Rounding.{Sample}
+use Rattle.split.specs.ShortRoute.{units}
 use Rattle.stream.specs.Synthesis.{storage}
 use Rattle.stream.specs.declared.Stream.{Stream}
-use Rattle.recording.specs.declared.Route.{Route}
-use Rattle.recording.specs.declared.Route.the-variants.{Direct, Short}
-use Rattle.filter_bank.specs.declared.Stepped.{Stepped}
-use Rattle.recording.specs.Analysis.{offered, coefficients, block}
-use Rattle.filter_bank.specs.Streams.{fresh, step, stepOut}
+use Rattle.analysis.specs.declared.Route.{Route}
+use Rattle.analysis.specs.declared.Route.the-variants.{Direct, Short}
+use Rattle.stream_calls.specs.declared.Stepped.{Stepped}
+use Rattle.analysis.specs.Analysis.{offered, coefficients}
+use Rattle.recording.specs.Recordings.{block}
+use Rattle.stream_calls.specs.Streams.{fresh, step, stepOut}
 
 -- ---- the list of steps
 -- what one call of `step` is handed besides the stream: coefficients and a buffer, of any lengths
@@ -88,33 +89,49 @@ pub record Brought (N H Q : ℕ) (routes : ℕ → Route) (x : List ℤ) (b : �
   pub near : (k : ℕ) → k < N / 2 → natAbs (at c k -ℤ at (coefficients (routes b) N (block N x b)) k) ≤ Q
 
 -- the taken steps bring blocks 0, 1, 2 .. in their order. Nothing is said of the refused ones
-pub record InOrder (N H Q : ℕ) (routes : ℕ → Route) (x : List ℤ) (offers : List Offer) : Type 0 where
-  pub each : (j : ℕ) (t : Turn) → Entry (taken (turns N offers)) j t → Brought N H Q routes x j (t .offer .brought)
+pub record InOrder (N H Q : ℕ) (routes : ℕ → Route) (x : List ℤ) (us : List Turn) : Type 0 where
+  pub each : (j : ℕ) (t : Turn) → Entry (taken us) j t → Brought N H Q routes x j (t .offer .brought)
 
 -- ---- the claim
--- what Q stands for where two blocks meet: the short route adds its units
-unfoldable pub change : ℕ → Route → Route → ℕ
-change Q Direct Direct = Q
-change Q Direct Short = Q + units
-change Q Short Direct = Q + units
-change Q Short Short = Q + units
+-- the units in which a route may lie away from the definition
+unfoldable pub unitsOf : Route → ℕ
+unitsOf Direct = 0
+unitsOf Short = units
 
--- about the list as a whole
-pub record Returned (N Q : ℕ) (routes : ℕ → Route) (x : List ℤ) (offers : List Offer) : Type 0 where
+-- what Q stands for where two blocks meet: the larger of their routes' units is added
+unfoldable pub change : ℕ → Route → Route → ℕ
+change Q r r′ = Q + max (unitsOf r) (unitsOf r′)
+
+-- about a list of steps as a whole, us its turns and last the stream after it
+pub record Returned (N Q : ℕ) (routes : ℕ → Route) (x : List ℤ) (us : List Turn) (last : Stream) : Type 0 where
   -- the stream was made, and no step returns 4
   pub made : fresh N .code ≡ 0
-  pub no-four : (i : ℕ) (t : Turn) → Entry (turns N offers) i t → t .answer .code ≢ 4
+  pub no-four : (i : ℕ) (t : Turn) → Entry us i t → t .answer .code ≢ 4
   -- a refused step leaves the stream and the buffer as they were
-  pub refused-stream : (i : ℕ) (t : Turn) → Entry (turns N offers) i t → t .answer .code ≢ 0 → t .answer .stream ≡ t .handed
-  pub refused-buffer : (i : ℕ) (t : Turn) → Entry (turns N offers) i t → t .answer .code ≢ 0 → t .output ≡ t .offer .buffer
+  pub refused-stream : (i : ℕ) (t : Turn) → Entry us i t → t .answer .code ≢ 0 → t .answer .stream ≡ t .handed
+  pub refused-buffer : (i : ℕ) (t : Turn) → Entry us i t → t .answer .code ≢ 0 → t .output ≡ t .offer .buffer
   -- a taken one returns a hop of M samples
-  pub hop-long : (j : ℕ) (t : Turn) → Entry (taken (turns N offers)) j t → length (t .output) ≡ N / 2
+  pub hop-long : (j : ℕ) (t : Turn) → Entry (taken us) j t → length (t .output) ≡ N / 2
   -- the taken step that brings block b + 1 returns the hop which blocks b and b + 1 share
-  pub hop-near : (b : ℕ) (t : Turn) → Entry (taken (turns N offers)) (suc b) t → (n : ℕ) → n < N / 2 →
+  pub hop-near : (b : ℕ) (t : Turn) → Entry (taken us) (suc b) t → (n : ℕ) → n < N / 2 →
       natAbs (at (t .output) n -ℤ at x (suc b * (N / 2) + n)) ≤ (change Q (routes b) (routes (suc b)) + 8) / 16
-  pub hop-same : (b : ℕ) (t : Turn) → Entry (taken (turns N offers)) (suc b) t → Q ≤ 7 → routes b ≡ Direct → routes (suc b) ≡ Direct →
+  pub hop-same : (b : ℕ) (t : Turn) → Entry (taken us) (suc b) t → Q ≤ 7 → routes b ≡ Direct → routes (suc b) ≡ Direct →
       (n : ℕ) → n < N / 2 → at (t .output) n ≡ at x (suc b * (N / 2) + n)
   -- the stream after the list is one of N, and its storage from M on is zero
-  pub final-n : final N offers .n ≡ N
-  pub final-long : length (final N offers .tail) ≡ storage
-  pub final-zero : drop (N / 2) (final N offers .tail) ≡ replicate (storage - N / 2) (pos 0)
+  pub final-n : last .n ≡ N
+  pub final-long : length (last .tail) ≡ storage
+  pub final-zero : drop (N / 2) (last .tail) ≡ replicate (storage - N / 2) (pos 0)
+
+-- ---- beyond what is asked, of the same list: (3 Q + 36) / 64, equal up to Q = 9, and 7 units for the short route
+unfoldable pub provedUnits : Route → ℕ
+provedUnits Direct = 0
+provedUnits Short = 7
+
+unfoldable pub provedChange : ℕ → Route → Route → ℕ
+provedChange Q r r′ = Q + max (provedUnits r) (provedUnits r′)
+
+pub record Sharper (N Q : ℕ) (routes : ℕ → Route) (x : List ℤ) (us : List Turn) : Type 0 where
+  pub hop-near : (b : ℕ) (t : Turn) → Entry (taken us) (suc b) t → (n : ℕ) → n < N / 2 →
+      natAbs (at (t .output) n -ℤ at x (suc b * (N / 2) + n)) ≤ (3 * provedChange Q (routes b) (routes (suc b)) + 36) / 64
+  pub hop-same : (b : ℕ) (t : Turn) → Entry (taken us) (suc b) t → Q ≤ 9 → routes b ≡ Direct → routes (suc b) ≡ Direct →
+      (n : ℕ) → n < N / 2 → at (t .output) n ≡ at x (suc b * (N / 2) + n)

@@ -12,7 +12,7 @@ use Rattle.stream.specs.declared.Stream.{Stream}
 use Rattle.stream.specs.Synthesis as S
 use Rattle.stream.specs.Steps.{next}
 use Rattle.stream.specs.NextLaws.{Fine, fine-fresh, fine-next}
-use Rattle.filter_bank.specs.Streams.{fresh, sound, stepCode}
+use Rattle.stream_calls.specs.Streams.{fresh, sound, stepCode}
 use Rattle.demands.specs.Steps.{Offer, answered, after}
 use Rattle.demands.specs.StepLaws.{sound-four, sound-of, taken-stream, taken-size}
 use Rattle.demands.specs.RunLaws.{code, refused-stream}

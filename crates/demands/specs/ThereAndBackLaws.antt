@@ -13,15 +13,15 @@ use Rattle.arithmetic.specs.Rounding.{rnd, clamp}
 use Rattle.cosine.specs.Kernels.{tabled, rising, falling}
 use Rattle.transform.specs.Synthesis.{V′}
 use Rattle.stream.specs.declared.Stream.{Stream}
-use Rattle.recording.specs.declared.Route.{Route}
-use Rattle.recording.specs.declared.Route.the-variants.{Direct}
+use Rattle.analysis.specs.declared.Route.{Route}
+use Rattle.analysis.specs.declared.Route.the-variants.{Direct}
 use Rattle.stream.specs.Steps.{hop}
-use Rattle.filter_bank.specs.Streams.{fresh}
-use Rattle.demands.specs.Steps.{Offer, Turn, answered, run, taken, turns, final, Entry, Recording, Brought, InOrder, change, Returned}
+use Rattle.stream_calls.specs.Streams.{fresh}
+use Rattle.demands.specs.Steps.{Offer, Turn, answered, run, taken, turns, final, Entry, Recording, Brought, InOrder, provedChange, Returned, Sharper}
 use Rattle.demands.specs.Steps.Entry.{first, later}
 use Rattle.demands.specs.StepLaws.{taken-buffer}
 use Rattle.demands.specs.RunLaws.{code, answered-code, refused-stream, refused-buffer, run-taken, run-refused, no-entry, entry-taken}
-use Rattle.demands.specs.RecordingLaws.{back-near, back-same}
+use Rattle.demands.specs.RecordingLaws.{back-near, back-same, near-asked}
 use Rattle.stream.specs.NextLaws.{Fine, hop-long, hop-at, next-at}
 use Rattle.demands.specs.StreamLaws.{fresh-is, fine-made, fine-four, fine-answered, fine-after, taken-next}
 
@@ -65,8 +65,8 @@ module _ (N : ℕ) (t : T (tabled N)) where
 
     -- what the turn u that brings block b + 1 returns
     record Kept (b : ℕ) (u : Turn) : Type 0 where
-      near : (n : ℕ) → n < N / 2 → natAbs (at (u .output) n -ℤ at x (suc b * (N / 2) + n)) ≤ (change Q (routes b) (routes (suc b)) + 8) / 16
-      same : Q ≤ 7 → routes b ≡ Direct → routes (suc b) ≡ Direct → (n : ℕ) → n < N / 2 → at (u .output) n ≡ at x (suc b * (N / 2) + n)
+      near : (n : ℕ) → n < N / 2 → natAbs (at (u .output) n -ℤ at x (suc b * (N / 2) + n)) ≤ (3 * provedChange Q (routes b) (routes (suc b)) + 36) / 64
+      same : Q ≤ 9 → routes b ≡ Direct → routes (suc b) ≡ Direct → (n : ℕ) → n < N / 2 → at (u .output) n ≡ at x (suc b * (N / 2) + n)
 
     module _ (s : Stream) (o : Offer) (zero-code : code s o ≡ 0) where
       kept : (b : ℕ) → State (suc b) s → Brought N H Q routes x (suc b) (o .brought) → Kept b (answered s o)
@@ -133,7 +133,7 @@ module _ (N : ℕ) (t : T (tabled N)) where
     state-fresh : State 0 (fresh N .stream)
     state-fresh = record { fine = fine-made N t; before = λ b e. absurd (omega arith) }
 
-    all-hops : (offers : List Offer) → InOrder N H Q routes x offers → Keep 0 (taken (turns N offers))
+    all-hops : (offers : List Offer) → InOrder N H Q routes x (turns N offers) → Keep 0 (taken (turns N offers))
     unfolding turns
     all-hops offers order =
         hops offers (fresh N .stream) 0 state-fresh
@@ -141,7 +141,7 @@ module _ (N : ℕ) (t : T (tabled N)) where
 
 -- the claim about the list as a whole: N is tabled, x is a recording, and the taken steps bring its blocks in their order, changed by at most Q
 pub there-and-back : (N : ℕ) → T (tabled N) → (H Q : ℕ) (routes : ℕ → Route) (x : List ℤ) → Recording N H x →
-    (offers : List Offer) → InOrder N H Q routes x offers → Returned N Q routes x offers
+    (offers : List Offer) → InOrder N H Q routes x (turns N offers) → Returned N Q routes x (turns N offers) (final N offers)
 unfolding turns final
 there-and-back N t H Q routes x rec offers order =
     let each = every-turn N t offers (fresh N .stream) (fine-made N t) in
@@ -153,9 +153,16 @@ there-and-back N t H Q routes x rec offers order =
       refused-stream = λ i u e. each i u e .kept-stream;
       refused-buffer = λ i u e. each i u e .kept-buffer;
       hop-long = λ j u e. let f = entry-taken (run (fresh N .stream) offers) j u e in each (f .place) u (f .entry) .long (f .zero-code);
-      hop-near = λ b u e. hop (suc b) u e b (omega arith) .near;
-      hop-same = λ b u e. hop (suc b) u e b (omega arith) .same;
+      hop-near = λ b u e n p. near-asked Q (routes b) (routes (suc b)) (hop (suc b) u e b (omega arith) .near n p);
+      hop-same = λ b u e q. hop (suc b) u e b (omega arith) .same (omega arith);
       final-n = last .n-is;
       final-long = last .long;
       final-zero = last .zeros;
     }
+
+-- and what is proved of it beyond that
+pub there-and-back-sharper : (N : ℕ) → T (tabled N) → (H Q : ℕ) (routes : ℕ → Route) (x : List ℤ) → Recording N H x →
+    (offers : List Offer) → InOrder N H Q routes x (turns N offers) → Sharper N Q routes x (turns N offers)
+there-and-back-sharper N t H Q routes x rec offers order =
+    let hop = all-hops N t H Q routes x rec offers order .each in
+    record { hop-near = λ b u e. hop (suc b) u e b (omega arith) .near; hop-same = λ b u e. hop (suc b) u e b (omega arith) .same }

@@ -9,18 +9,20 @@ use lib.ListN.{length, getD, take, drop, length-append, List·getD-append}
 use lib.Seq.{take-at, drop-append-add, take-append-add, getD-append-add}
 use lib.IntN.{ℤ, pos, natAbs}
 use Rattle.arithmetic.specs.Lists.{at, Small}
-use Rattle.arithmetic.specs.RoundingLaws.{Sample, sample-abs, clamp-sample}
+use Rattle.arithmetic.specs.Rounding.{Sample}
+use Rattle.arithmetic.specs.RoundingLaws.{sample-abs, clamp-sample}
 use Rattle.arithmetic.specs.ListLaws.{length-table, getD-table}
 use Rattle.cosine.specs.Kernels.{tabled, rising, falling}
 use Rattle.cosine.specs.LengthLaws.{length-of, part-of}
 use Rattle.transform.specs.Analysis.{y, X, direct}
 use Rattle.transform.specs.SizeLaws.{y-size, X-taken}
-use Rattle.stream.specs.Steps.{hop}
-use Rattle.recording.specs.declared.Route.the-variants.{Direct}
-use Rattle.recording.specs.Analysis.{spectrum, coefficients, block}
+use Rattle.stream.specs.Steps.{streamAfter, returned}
+use Rattle.analysis.specs.declared.Route.the-variants.{Direct}
+use Rattle.analysis.specs.Analysis.{spectrum, coefficients}
+use Rattle.recording.specs.Recordings.{block}
 use Rattle.stream.specs.StepLaws.{rising-size, falling-size}
-use Rattle.stream.specs.NextLaws.{hop-long, hop-at, Fine, fine-fresh, fine-next}
-use Rattle.listing.specs.Listing.{recording, analysed, streamAt, returned}
+use Rattle.stream.specs.NextLaws.{Fine, hop-at, stream-n, stream-fine}
+use Rattle.listing.specs.Listing.{recording, analysed}
 
 -- ---- hops of M samples
 pub record Hops (M : ℕ) (hs : List (List ℤ)) : Type 0 where
@@ -109,24 +111,18 @@ module _ (N : ℕ) (t : T (tabled N)) where
     pub coefficients-small : Small (coefficients Direct N xs) (2 ^ 29)
     coefficients-small = record { small = λ k p. coefficient k (omega (arith, coefficients-long)) }
 
-  -- the streams of a listing, and the hops that come back
+  -- the blocks of a listing, and the stream that step b is handed
   module _ (hs : List (List ℤ)) (a : Hops (N / 2) hs) where
     pub blocks : (b : ℕ) → suc b < length hs → Block N (block N (recording hs) b)
     blocks b p =
         rw (block-is N t hs a b p)
         (block-of N t (getD hs b []) (getD hs (suc b) []) (a .long b (omega arith)) (a .long (suc b) p) (λ i q. a .sample b i (omega arith) q) (λ i q. a .sample (suc b) i p q))
 
-    pub stream-fine : (b : ℕ) → b < length hs → Fine N (streamAt N (recording hs) b)
-    unfolding streamAt analysed
-    stream-fine zero p = fine-fresh N t
-    stream-fine (suc b) p =
-        let c = coefficients Direct N (block N (recording hs) b) in
-        fine-next N t (streamAt N (recording hs) b) (stream-fine b (omega arith)) c (coefficient (block N (recording hs) b) (blocks b p))
+    pub hops-fine : (b : ℕ) → b < length hs → Fine N (streamAfter N (analysed N (recording hs)) b)
+    unfolding analysed
+    hops-fine b p = stream-fine N (analysed N (recording hs)) t b (λ c q. coefficient (block N (recording hs) c) (blocks c (omega arith))) b (omega arith)
 
-    pub returned-long : (b : ℕ) → b < length hs → length (returned N (recording hs) b) ≡ N / 2
-    unfolding returned
-    returned-long b p = hop-long N (streamAt N (recording hs) b) (stream-fine b p .n-is) (analysed N (recording hs) b)
-
-    pub returned-sample : (b : ℕ) → b < length hs → (i : ℕ) → i < N / 2 → Sample (at (returned N (recording hs) b) i)
-    unfolding returned
-    returned-sample b p i q = rw (hop-at N (streamAt N (recording hs) b) (stream-fine b p .n-is) (analysed N (recording hs) b) i q) (clamp-sample _)
+-- ---- what a step returns are samples
+pub returned-sample : (N : ℕ) (x : ℕ → List ℤ) (b i : ℕ) → i < N / 2 → Sample (at (returned N x b) i)
+unfolding returned
+returned-sample N x b i p = rw (hop-at N (streamAfter N x b) (stream-n N x b) (x b) i p) (clamp-sample _)

@@ -1,7 +1,7 @@
 -- Laws of a block as the code has it: two lines of the text, one behind the other, and the step that it brings.
 use mathlib.Core.Path.{_≡_, refl, sym, _∙_}
 use mathlib.Core.List.{List, _++_, append-nil}
-use Prim.Native.Nat.{ℕ, suc, _+_, _-_, _/_, _≤_, _<_}
+use Prim.Native.Nat.{ℕ, suc, _-_, _/_, _≤_, _<_}
 use native.Mathlib.Omega.{arith}
 use lib.Dec.{T}
 use lib.ListN.{length, take, drop, length-append, drop-of-length-le}
@@ -9,17 +9,19 @@ use lib.Seq.{length-take-le, take-at, drop-at}
 use lib.IntN.{ℤ}
 use Rattle.cosine.specs.Kernels.{tabled}
 use Rattle.stream.specs.declared.Stream.{Stream}
-use Rattle.stream.specs.Steps.{next, hop}
+use Rattle.stream.specs.Steps.{next, hop, streamAfter, returned}
 use Rattle.stream.specs.StepLaws.{Bounded}
-use Rattle.stream.specs.NextLaws.{Fine}
-use Rattle.recording.specs.declared.Route.the-variants.{Direct}
-use Rattle.recording.specs.Analysis.{coefficients, block}
-use Rattle.listing.specs.Lines.{lineAt, nextLine, lineStart, isHop, samples}
+use Rattle.stream.specs.NextLaws.{Fine, stream-n}
+use Rattle.analysis.specs.declared.Route.the-variants.{Direct}
+use Rattle.analysis.specs.Analysis.{coefficients}
+use Rattle.recording.specs.Recordings.{block}
+use Rattle.text.specs.Lines.{lineAt, nextLine, lineStart}
+use Rattle.listing.specs.Hops.{isHop, samples}
 use Rattle.listing.specs.HopLaws.{hop-length, hop-sample, hops-counted, hops-start, hops-line, hops-read}
 use Rattle.listing.specs.Verdicts.{hopsOf}
 use Rattle.listing.specs.VerdictLaws.{Taken}
-use Rattle.listing.specs.Listing.{recording, analysed, streamAt, returned}
-use Rattle.listing.specs.BankLaws.{Block, block-of, block-is, stream-fine}
+use Rattle.listing.specs.Listing.{recording, analysed}
+use Rattle.listing.specs.BankLaws.{Block, block-of, block-is, hops-fine}
 use Rattle.listing.specs.SizeLaws.{taken-hops}
 
 -- the line that starts at a place and the one behind it are hops of M samples
@@ -75,15 +77,15 @@ hop-moved text p q t = rw (p, q) t
 
 -- ---- the step of block b of a taken listing, on the stream that it is handed
 module _ {text : List ℕ} {N H : ℕ} (K : Taken text N H) (b : ℕ) (p : suc b < H) (s : Stream) (place : ℕ) where
-  abbrev x : List ℤ
-  x = recording (hopsOf text)
+  abbrev x : ℕ → List ℤ
+  x = analysed N (recording (hopsOf text))
 
-  module _ (is : s ≡ streamAt N x b) (here : place ≡ lineStart text (suc b)) where
-    fine : Fine N (streamAt N x b)
-    fine = stream-fine N (K .length-tabled) (hopsOf text) (taken-hops K) b (omega (arith, hops-counted K))
+  module _ (is : s ≡ streamAfter N x b) (here : place ≡ lineStart text (suc b)) where
+    fine : Fine N (streamAfter N x b)
+    fine = hops-fine N (K .length-tabled) (hopsOf text) (taken-hops K) b (omega (arith, hops-counted K))
 
     pub step-n : s .n ≡ N
-    step-n = rw is (fine .n-is)
+    step-n = rw is (stream-n N x b)
 
     pub step-tabled : T (tabled (s .n))
     step-tabled = rw step-n (K .length-tabled)
@@ -94,12 +96,12 @@ module _ {text : List ℕ} {N H : ℕ} (K : Taken text N H) (b : ℕ) (p : suc b
     pub step-hops : TwoHops (s .n / 2) text place
     step-hops = rw (step-n, here) (two-hops K b p)
 
-    brought : coefficients Direct (s .n) (blockAt text place) ≡ analysed N x b
+    brought : coefficients Direct (s .n) (blockAt text place) ≡ x b
     unfolding analysed
     brought = rw (step-n, here, block-at K b p)
 
-    pub step-next : next s (coefficients Direct (s .n) (blockAt text place)) ≡ streamAt N x (suc b)
-    unfolding streamAt
+    pub step-next : next s (coefficients Direct (s .n) (blockAt text place)) ≡ streamAfter N x (suc b)
+    unfolding streamAfter
     step-next = rw (brought, is)
 
     pub step-returned : hop s (coefficients Direct (s .n) (blockAt text place)) ≡ returned N x b

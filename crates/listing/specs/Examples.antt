@@ -1,5 +1,5 @@
--- Listings and their verdicts, and document 01's example with what is printed of it: computed, and proved as a whole.
-use mathlib.Core.Path.{_≡_, refl, ap, _∙_}
+-- Listings and their verdicts, and document 01's example with its lines: computed.
+use mathlib.Core.Path.{_≡_, refl}
 use mathlib.Core.Bool.{Bool, _&&_}
 use mathlib.Core.List.{List, [], _∷_}
 use Prim.Native.Nat.{ℕ, _<_}
@@ -8,16 +8,16 @@ use lib.ListN.{length, getD}
 use Rattle.arithmetic.specs.Lists.{table, every}
 use Rattle.arithmetic.specs.TestLaws.{every-at}
 use Rattle.cosine.specs.Kernels.{lengths, tabled}
+use Rattle.text.specs.Bytes.{ascii}
+use Rattle.text.specs.Number.{isDigit, leadingZero, isNatural, naturalFrom, natural, isSigned, isNumber, value, digitsBy, decimal, printed}
+use Rattle.text.specs.NumberLaws.{and-left, and-right}
+use Rattle.text.specs.Lines.{inFront, split, ended, unended, lines, remainder, fields, more, line}
 use Rattle.listing.specs.declared.verdict.Verdict.{Verdict}
-use Rattle.listing.specs.Bytes.{ascii}
-use Rattle.listing.specs.Number.{isDigit, leadingZero, isNatural, naturalFrom, natural, isSigned, isNumber, value, digitsBy, decimal, printed}
-use Rattle.listing.specs.NumberLaws.{and-left, and-right}
-use Rattle.listing.specs.Lines.{inFront, split, ended, unended, lines, remainder, fields, isSample, isHop, samples}
-use Rattle.listing.specs.Verdicts.{refused, taken, byHops, byLength, byLines, verdict, hopsOf}
-use Rattle.listing.specs.Print.{more, line, header, row, refusal}
+use Rattle.listing.specs.Hops.{isSample, isHop, samples}
+use Rattle.listing.specs.Verdicts.{refused, taken, byHops, byLength, byLines, verdict, hopsOf, hopOf}
+use Rattle.listing.specs.Print.{header, row, refusal}
 use Rattle.listing.specs.Listing as L
-use Rattle.listing.specs.Listing.{rows, listing}
-use Rattle.listing.specs.ReturnLaws.{hopOf, listing-returns}
+use Rattle.listing.specs.Listing.{rows}
 
 -- ---- verdicts
 pub record Example : Type 0 where
@@ -101,7 +101,7 @@ unfolding header line more table decimal digitsBy
 document-header = refl
 
 -- the inner hop of the example as it was read
-pub document-row : row 1 (getD (hopsOf document) 1 []) ≡ ascii "1,7,-8,32767,-32768,1,0\n"
+pub document-row : row 1 (hopOf document 1) ≡ ascii "1,7,-8,32767,-32768,1,0\n"
 unfolding row line more printed decimal digitsBy hopsOf lines split inFront ended samples fields value isSigned natural naturalFrom
 document-row = refl
 
@@ -109,14 +109,11 @@ pub empty-refusal : refusal 5 1 ≡ ascii "refused,5,1\n"
 unfolding refusal line more decimal digitsBy
 empty-refusal = refl
 
--- ---- the whole of document 01's example
-document-taken : verdict document ≡ taken 12 3
+-- ---- document 01's example: its verdict, and its own inner hop behind the header
+pub document-taken : verdict document ≡ taken 12 3
 unfolding every verdict byLines byLength byHops lines remainder split inFront ended unended fields isSample isHop isNumber value isSigned natural naturalFrom isNatural leadingZero isDigit tabled lengths
 document-taken = refl
 
-document-table : L.table 12 3 (hopOf document) ≡ ascii "hop,s0,s1,s2,s3,s4,s5\n1,7,-8,32767,-32768,1,0\n"
+pub document-table : L.table 12 3 (hopOf document) ≡ ascii "hop,s0,s1,s2,s3,s4,s5\n1,7,-8,32767,-32768,1,0\n"
 unfolding L.table rows header row line more table printed decimal digitsBy hopsOf lines split inFront ended samples fields value isSigned natural naturalFrom
 document-table = refl
-
-pub document-listing : listing document ≡ ascii "hop,s0,s1,s2,s3,s4,s5\n1,7,-8,32767,-32768,1,0\n"
-document-listing = listing-returns document (ap (λ (v : Verdict). v .code) document-taken) ∙ rw document-taken document-table

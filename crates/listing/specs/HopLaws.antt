@@ -10,15 +10,15 @@ use lib.Seq.{getD-drop, ext-getD}
 use lib.IntN.{ℤ, pos}
 use lib.Signed.{leZ, leZ-yes}
 use Rattle.arithmetic.specs.Lists.{at, table, every}
-use Rattle.arithmetic.specs.Rounding.{least, largest}
-use Rattle.arithmetic.specs.RoundingLaws.{Sample}
+use Rattle.arithmetic.specs.Rounding.{least, largest, Sample}
 use Rattle.arithmetic.specs.ListLaws.{length-table, getD-table}
 use Rattle.arithmetic.specs.TestLaws.{every-at}
-use Rattle.listing.specs.Number.{isNumber, value}
-use Rattle.listing.specs.NumberLaws.{and-left, and-right}
-use Rattle.listing.specs.Lines.{lines, lineAt, lineStart, fields, isSample, isHop, samples}
-use Rattle.listing.specs.LineLaws.{lines-from, line-is, lines-few}
-use Rattle.listing.specs.Verdicts.{hopsOf}
+use Rattle.text.specs.Number.{mostDigits, isNumber, value}
+use Rattle.text.specs.NumberLaws.{and-left, and-right, number-wider}
+use Rattle.text.specs.Lines.{lines, lineAt, lineStart, fields}
+use Rattle.text.specs.LineLaws.{lines-from, line-is, lines-few}
+use Rattle.listing.specs.Hops.{digits, isSample, isHop, samples}
+use Rattle.listing.specs.Verdicts.{hopsOf, hopOf}
 use Rattle.listing.specs.VerdictLaws.{Taken}
 
 map-at : {A B : Type 0} (f : A → B) (xs : List A) (i : ℕ) (d : A) (e : B) → i < length xs → getD (map f xs) i e ≡ f (getD xs i d)
@@ -26,15 +26,19 @@ map-at f [] i d e h = absurd (omega arith)
 map-at f (x ∷ xs) zero d e h = refl
 map-at f (x ∷ xs) (suc i) d e h = map-at f xs i d e (omega arith)
 
+-- a number of the listing fits 64 bits
+pub number-fits : (f : List ℕ) → T (isNumber digits f) → T (isNumber mostDigits f)
+number-fits f t = number-wider digits mostDigits f (omega arith) t
+
 -- ---- a field that is a sample
-pub sample-number : (f : List ℕ) → T (isSample f) → T (isNumber f)
+pub sample-number : (f : List ℕ) → T (isSample f) → T (isNumber digits f)
 unfolding isSample
-sample-number f t = and-left (isNumber f) (leZ least (value f)) (and-left (isNumber f && leZ least (value f)) (leZ (value f) largest) t)
+sample-number f t = and-left (isNumber digits f) (leZ least (value f)) (and-left (isNumber digits f && leZ least (value f)) (leZ (value f) largest) t)
 
 pub sample-is : (f : List ℕ) → T (isSample f) → Sample (value f)
 unfolding isSample
 sample-is f t =
-    let a = isNumber f in
+    let a = isNumber digits f in
     let b = leZ least (value f) in
     let c = leZ (value f) largest in
     record { low = leZ-yes (and-right a b (and-left (a && b) c t)); high = leZ-yes (and-right (a && b) c t) }
@@ -74,17 +78,17 @@ module _ {text : List ℕ} {N H : ℕ} (K : Taken text N H) where
   hops-counted = length-map (drop 1 (lines text)) samples ∙ omega (arith, length-drop 1 (lines text), K .counted)
 
   -- hop j stands in the line behind line 1 and the j hops in front of it
-  pub hops-at : (j : ℕ) → j < H → getD (hopsOf text) j [] ≡ samples (getD (lines text) (suc j) [])
+  pub hops-at : (j : ℕ) → j < H → hopOf text j ≡ samples (getD (lines text) (suc j) [])
   unfolding hopsOf
   hops-at j h =
       let e : 1 + j ≡ suc j = omega arith in
       map-at samples (drop 1 (lines text)) j [] [] (omega (arith, length-drop 1 (lines text), K .counted)) ∙ ap samples (getD-drop 1 (lines text) j [] ∙ ap (λ (k : ℕ). getD (lines text) k []) e)
 
   -- hop j, of M samples
-  pub hops-length : (j : ℕ) → j < H → length (getD (hopsOf text) j []) ≡ N / 2
+  pub hops-length : (j : ℕ) → j < H → length (hopOf text j) ≡ N / 2
   hops-length j h = ap length (hops-at j h) ∙ hop-length (N / 2) (getD (lines text) (suc j) []) (K .hop j h)
 
-  pub hops-sample : (j i : ℕ) → j < H → i < N / 2 → Sample (at (getD (hopsOf text) j []) i)
+  pub hops-sample : (j i : ℕ) → j < H → i < N / 2 → Sample (at (hopOf text j) i)
   hops-sample j i h k = rw (hops-at j h) (hop-sample (N / 2) (getD (lines text) (suc j) []) (K .hop j h) i k)
 
   -- its line starts behind line 1 and the j hops in front of it
@@ -94,7 +98,7 @@ module _ {text : List ℕ} {N H : ℕ} (K : Taken text N H) where
   pub hops-line : (j : ℕ) → j < H → T (isHop (N / 2) (lineAt text (lineStart text (suc j))))
   hops-line j h = rw (line-is text (suc j) (omega (arith, K .counted))) (K .hop j h)
 
-  pub hops-read : (j : ℕ) → j < H → samples (lineAt text (lineStart text (suc j))) ≡ getD (hopsOf text) j []
+  pub hops-read : (j : ℕ) → j < H → samples (lineAt text (lineStart text (suc j))) ≡ hopOf text j
   hops-read j h = rw (line-is text (suc j) (omega (arith, K .counted))) (sym (hops-at j h))
 
   -- there are fewer than bytes

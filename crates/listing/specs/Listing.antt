@@ -1,20 +1,17 @@
 -- What round-trip prints for the bytes of its standard input: definitions. Document 01, 'Listing program'.
-use mathlib.Core.Path.{_≡_}
 use mathlib.Core.Bool.{cond}
 use mathlib.Core.List.{List, [], _∷_, _++_}
 use Prim.Native.Nat.{ℕ, zero, suc, _-_, _/_}
 use lib.Dec.{eqb}
-use lib.ListN.{length, take, drop}
 use lib.IntN.{ℤ}
-use Rattle.stream.specs.declared.Stream.{Stream}
-use Rattle.stream.specs.Synthesis.{fresh}
-use Rattle.stream.specs.Steps.{next, hop}
-use Rattle.recording.specs.declared.Route.the-variants.{Direct}
-use Rattle.recording.specs.Analysis.{coefficients, block}
+use Rattle.stream.specs.Steps.{returned}
+use Rattle.analysis.specs.declared.Route.the-variants.{Direct}
+use Rattle.analysis.specs.Analysis.{coefficients}
+use Rattle.recording.specs.Recordings.{block}
 use Rattle.listing.specs.Verdicts.{verdict, hopsOf}
 use Rattle.listing.specs.Print.{header, row, refusal}
 
--- ---- the bank on a recording x
+-- ---- a listing's hops through the bank
 -- the recording that hops are, one after the other
 unfoldable pub recording : List (List ℤ) → List ℤ
 recording [] = []
@@ -24,14 +21,10 @@ recording (h ∷ hs) = h ++ recording hs
 unfoldable pub analysed : ℕ → List ℤ → ℕ → List ℤ
 analysed N x b = coefficients Direct N (block N x b)
 
--- the stream that the step of block b is handed: a fresh one, and then what each step on unchanged coefficients gave back
-unfoldable pub streamAt : ℕ → List ℤ → ℕ → Stream
-streamAt N x zero = fresh N
-streamAt N x (suc b) = next (streamAt N x b) (analysed N x b)
-
--- the hop that the step of block b returns. That of block 0 is the run-in
-unfoldable pub returned : ℕ → List ℤ → ℕ → List ℤ
-returned N x b = hop (streamAt N x b) (analysed N x b)
+-- the hop that comes back for block b of a listing: what step b from a fresh stream returns, each step on the coefficients of its block,
+-- unchanged. That of block 0 is the run-in
+abbrev pub returnedHops : ℕ → List ℕ → ℕ → List ℤ
+returnedHops N text = returned N (analysed N (recording (hopsOf text)))
 
 -- ---- what is printed
 -- the rows of hops 1 to k: each hop's number, and its samples
@@ -48,12 +41,5 @@ table N H hops = header (N / 2) ++ rows hops (H - 2)
 unfoldable pub listing : List ℕ → List ℕ
 listing text =
     cond (eqb (verdict text .code) 0)
-    (table (verdict text .n) (verdict text .hops) (returned (verdict text .n) (recording (hopsOf text))))
+    (table (verdict text .n) (verdict text .hops) (returnedHops (verdict text .n) text))
     (refusal (verdict text .code) (verdict text .line))
-
--- ---- a buffer that is handed in for it
--- its first r bytes are the text, which has r bytes, and those behind are as they were
-pub record Written (text before after : List ℕ) (r : ℕ) : Type 0 where
-  pub is : take r after ≡ text
-  pub long : r ≡ length text
-  pub rest : drop r after ≡ drop r before

@@ -1,33 +1,21 @@
--- What the listing program prints, and how a buffer then holds it: definitions. Document 01, 'Listing program' and 'When the bank declines'.
-use mathlib.Core.Path.{_≡_}
+-- The lines that the listing program prints: definitions. Document 01, 'Listing program' and 'When the bank declines'.
 use mathlib.Core.List.{List, [], _∷_, _++_, map}
-use Prim.Native.Nat.{ℕ, suc, _+_}
-use lib.ListN.{length, set}
+use Prim.Native.Nat.{ℕ}
 use lib.IntN.{ℤ}
 use Rattle.arithmetic.specs.Lists.{table}
-use Rattle.listing.specs.Bytes.{lineFeed, comma, word-hop, word-s, word-refused}
-use Rattle.listing.specs.Number.{decimal, printed}
+use Rattle.text.specs.Bytes.{ascii}
+use Rattle.text.specs.Number.{decimal, printed}
+use Rattle.text.specs.Lines.{line}
 
--- ---- a buffer
--- the buffer with the bytes of text from a place on, and as it was elsewhere
-unfoldable pub stored : List ℕ → ℕ → List ℕ → List ℕ
-stored out place [] = out
-stored out place (b ∷ text) = stored (set out place b) (suc place) text
+-- the words
+abbrev pub word-hop : List ℕ
+word-hop = ascii "hop"
 
--- what a call that puts text into a buffer at a place leaves there, and the place behind it, which it returns
-pub record Put (text out : List ℕ) (place : ℕ) (after : List ℕ) (next : ℕ) : Type 0 where
-  pub holds : after ≡ stored out place text
-  pub behind : next ≡ place + length text
+abbrev pub word-s : List ℕ
+word-s = ascii "s"
 
--- ---- lines
--- fields, each with a comma in front
-unfoldable pub more : List (List ℕ) → List ℕ
-more [] = []
-more (f ∷ fs) = comma ∷ (f ++ more fs)
-
--- a first field and further ones, parted by commas, ended by a line feed
-unfoldable pub line : List ℕ → List (List ℕ) → List ℕ
-line f fs = f ++ more fs ++ (lineFeed ∷ [])
+abbrev pub word-refused : List ℕ
+word-refused = ascii "refused"
 
 -- the header hop,s0,.. through s(M-1)
 unfoldable pub header : ℕ → List ℕ

@@ -16,69 +16,33 @@ use Rattle.arithmetic.specs.Lists.{at}
 use Rattle.arithmetic.specs.RoundingLaws.{sample-abs}
 use Rattle.cosine.specs.Kernels.{tabled}
 use Rattle.cosine.specs.LengthLaws.{last-length, length-of}
-use Rattle.listing.specs.Bytes.{lineFeed, comma, word-hop, word-s, word-refused}
-use Rattle.listing.specs.Number.{isNatural, isSigned, isNumber, decimal, printed}
-use Rattle.listing.specs.Lines.{inFront, split, ended, lines, fields, isHop}
-use Rattle.listing.specs.LineLaws.{split-some}
+use Rattle.stream.specs.NextLaws.{returned-long}
+use Rattle.text.specs.Bytes.{lineFeed, comma}
+use Rattle.text.specs.Number.{decimal, printed}
+use Rattle.text.specs.NumberLaws.{number-long}
+use Rattle.text.specs.Lines.{lines, fields, more, line}
+use Rattle.text.specs.LineLaws.{split-weight, lines-weight, parts-weight, behind-weight}
+use Rattle.listing.specs.Print.{word-hop, word-s, word-refused, header, row, refusal}
+use Rattle.listing.specs.Hops.{digits, isHop}
 use Rattle.listing.specs.HopLaws.{sample-number, hop-fields, hop-field, hops-counted, hops-length, hops-sample, hops-few}
 use Rattle.listing.specs.Verdicts.{limit, verdict, hopsOf}
 use Rattle.listing.specs.VerdictLaws.{Taken, verdict-taken, verdict-code, verdict-line}
-use Rattle.listing.specs.Print.{more, line, header, row, refusal}
 use Rattle.listing.specs.PrintLaws.{decimal-most, printed-most, names-next}
-use Rattle.listing.specs.Listing.{recording, returned, rows, table, listing}
-use Rattle.listing.specs.BankLaws.{Hops, returned-long, returned-sample}
-
--- ---- the bytes of parts, with one more for each
-unfoldable weight : List (List ℕ) → ℕ
-weight [] = 0
-weight (f ∷ fs) = suc (length f + weight fs)
-
-split-weight : (p : ℕ) (s : List ℕ) → weight (split p s) ≡ suc (length s)
-unfolding split inFront weight
-split-weight p [] = refl
-split-weight p (b ∷ s) = go (eqb b p) (split p s) (split-some p s) (split-weight p s)
-  where
-    go : (t : Bool) (fs : List (List ℕ)) → 1 ≤ length fs → weight fs ≡ suc (length s) → weight (cond t ([] ∷ fs) (inFront b fs)) ≡ suc (suc (length s))
-    go true fs h k = omega arith
-    go false [] h k = absurd (omega arith)
-    go false (f ∷ fs) h k = omega arith
-
-ended-weight : (fs : List (List ℕ)) → weight (ended fs) ≤ weight fs
-unfolding ended weight
-ended-weight [] = omega arith
-ended-weight (f ∷ []) = omega arith
-ended-weight (f ∷ g ∷ fs) = omega (arith, ended-weight (g ∷ fs))
-
-parts-weight : (m : ℕ) (fs : List (List ℕ)) → ((i : ℕ) → i < length fs → m ≤ suc (length (getD fs i []))) → length fs * m ≤ weight fs
-unfolding weight
-parts-weight m [] h = omega arith
-parts-weight m (f ∷ fs) h = omega (arith, h 0 (omega arith), parts-weight m fs (λ i p. h (suc i) (omega arith)))
-
-behind-weight : (m H : ℕ) (fs : List (List ℕ)) → length fs ≡ suc H → ((i : ℕ) → i < H → m ≤ suc (length (getD fs (suc i) []))) → H * m < weight fs
-unfolding weight
-behind-weight m H [] e h = absurd (omega arith)
-behind-weight m H (f ∷ fs) e h =
-    let k : H ≡ length fs = omega arith in
-    rw k (omega (arith, parts-weight m fs (λ i p. h i (omega arith))))
+use Rattle.listing.specs.Listing.{recording, analysed, returnedHops, rows, table, listing}
+use Rattle.listing.specs.BankLaws.{Hops, returned-sample}
 
 -- ---- a hop of M samples takes at least 2M bytes, its line feed among them
-number-long : (f : List ℕ) → T (isNumber f) → 1 ≤ length f
-unfolding isNumber isSigned isNatural
-number-long [] t = absurd t
-number-long (b ∷ f) t = omega arith
-
 hop-bytes : (M : ℕ) (l : List ℕ) → T (isHop M l) → M * 2 ≤ suc (length l)
 unfolding fields
 hop-bytes M l t = omega (arith, parts-weight 2 (fields l) (λ i p. field i (omega (arith, hop-fields M l t))), hop-fields M l t, split-weight comma l)
   where
     field : (i : ℕ) → i < M → 2 ≤ suc (length (getD (fields l) i []))
-    field i p = omega (arith, number-long (getD (fields l) i []) (sample-number (getD (fields l) i []) (hop-field M l t i p)))
+    field i p = omega (arith, number-long digits (getD (fields l) i []) (sample-number (getD (fields l) i []) (hop-field M l t i p)))
 
 -- so few hops fit
 module _ {text : List ℕ} {N H : ℕ} (K : Taken text N H) where
   pub hops-bytes : H * (N / 2 * 2) ≤ limit
-  unfolding lines
-  hops-bytes = omega (arith, behind-weight (N / 2 * 2) H (lines text) (K .counted) (λ i p. hop-bytes (N / 2) (getD (lines text) (suc i) []) (K .hop i p)), ended-weight (split lineFeed text), split-weight lineFeed text, K .small)
+  hops-bytes = omega (arith, behind-weight (N / 2 * 2) H (lines text) (K .counted) (λ i p. hop-bytes (N / 2) (getD (lines text) (suc i) []) (K .hop i p)), lines-weight text, K .small)
 
   pub taken-hops : Hops (N / 2) (hopsOf text)
   taken-hops = record {
@@ -146,31 +110,29 @@ table-room N H t h = go (ℕ-discrete N 12) (ℕ-discrete N 24) (ℕ-discrete N 
 
 module _ {text : List ℕ} {N H : ℕ} (K : Taken text N H) where
   -- the row of an inner hop
-  pub taken-row : (j : ℕ) → j < H - 2 → length (row (suc j) (returned N (recording (hopsOf text)) (suc j))) ≤ 7 * (N / 2) + 6
+  pub taken-row : (j : ℕ) → j < H - 2 → length (row (suc j) (returnedHops N text (suc j))) ≤ 7 * (N / 2) + 6
   taken-row j p =
-      let hs = hopsOf text in
-      let h = returned N (recording hs) (suc j) in
-      let q : suc j < length hs = omega (arith, hops-counted K) in
-      let l = returned-long N (K .length-tabled) hs (taken-hops K) (suc j) q in
+      let h = returnedHops N text (suc j) in
+      let l = returned-long N (analysed N (recording (hopsOf text))) (suc j) in
       omega (
         arith,
         l,
         row-most (suc j) h (omega (arith, hops-few K, K .small))
-            (λ i r. omega (arith, sample-abs (returned-sample N (K .length-tabled) hs (taken-hops K) (suc j) q i (omega (arith, l))))),
+            (λ i r. omega (arith, sample-abs (returned-sample N (analysed N (recording (hopsOf text))) (suc j) i (omega (arith, l))))),
       )
 
   -- behind the rows of hops 1 to k there is room for another
-  pub row-room : (k from at most : ℕ) → k < H - 2 → at ≡ from + length (rows (returned N (recording (hopsOf text))) k) → from + (H - 2) * (7 * (N / 2) + 6) ≤ most → at + (7 * (N / 2) + 6) ≤ most
+  pub row-room : (k from at most : ℕ) → k < H - 2 → at ≡ from + length (rows (returnedHops N text) k) → from + (H - 2) * (7 * (N / 2) + 6) ≤ most → at + (7 * (N / 2) + 6) ≤ most
   row-room k from at most p is h =
       let c = 7 * (N / 2) + 6 in
-      let l = rows-most (returned N (recording (hopsOf text))) c k (λ j q. taken-row j (omega arith)) in
+      let l = rows-most (returnedHops N text) c k (λ j q. taken-row j (omega arith)) in
       let m : suc k * c ≤ (H - 2) * c = mul-le-mul-right c p in
       omega arith
 
-  pub taken-most : length (table N H (returned N (recording (hopsOf text)))) ≤ room
+  pub taken-most : length (table N H (returnedHops N text)) ≤ room
   unfolding table
   taken-most =
-      let f = returned N (recording (hopsOf text)) in
+      let f = returnedHops N text in
       omega (arith, length-append (header (N / 2)) (rows f (H - 2)), header-most (N / 2) (omega (arith, length-of N (K .length-tabled) .most)), rows-most f (7 * (N / 2) + 6) (H - 2) taken-row, table-room N H (K .length-tabled) (hops-bytes K))
 
 -- whatever the text is
@@ -179,7 +141,7 @@ unfolding listing
 listing-most text = go (eqb (verdict text .code) 0) refl
   where
     taken : List ℕ
-    taken = table (verdict text .n) (verdict text .hops) (returned (verdict text .n) (recording (hopsOf text)))
+    taken = table (verdict text .n) (verdict text .hops) (returnedHops (verdict text .n) text)
 
     go : (b : Bool) → eqb (verdict text .code) 0 ≡ b → length (cond b taken (refusal (verdict text .code) (verdict text .line))) ≤ room
     go true e = taken-most (verdict-taken text (eqb-true (verdict text .code) 0 e))

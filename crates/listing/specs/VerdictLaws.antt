@@ -16,11 +16,12 @@ use Rattle.arithmetic.specs.TestLaws.{both-make, every-at}
 use Rattle.arithmetic.specs.IntegerLaws.{ints}
 use Rattle.arithmetic.specs.OrderLaws.{ltZ-true, ltZ-false}
 use Rattle.cosine.specs.Kernels.{tabled}
+use Rattle.text.specs.Bytes.{lineFeed}
+use Rattle.text.specs.Number.{isNumber, value}
+use Rattle.text.specs.Lines.{indexOf, split, ended, unended, lines, remainder}
+use Rattle.text.specs.LineLaws.{part, lines-few, line-found, line-none, remainder-found, remainder-none}
 use Rattle.listing.specs.declared.verdict.Verdict.{Verdict}
-use Rattle.listing.specs.Bytes.{lineFeed}
-use Rattle.listing.specs.Number.{isNumber, value}
-use Rattle.listing.specs.Lines.{indexOf, split, ended, unended, lines, remainder, isHop}
-use Rattle.listing.specs.LineLaws.{part, lines-few, line-found, line-none, remainder-found, remainder-none}
+use Rattle.listing.specs.Hops.{digits, isHop}
 use Rattle.listing.specs.Verdicts.{limit, refused, taken, byHops, byLength, byLines, verdict}
 
 -- ---- the lines behind the first: what is left from place i on, H hops being read
@@ -58,11 +59,11 @@ module _ (s : List ℕ) (e : ℕ) (small : length s ≤ limit) (is : e ≡ 0 + i
   unfolding verdict byLines
   first-unended k = rw (le-ltb limit (length s) small, line-none s 0 e (omega arith) is k)
 
-  pub first-bad : e < length s → isNumber (take e s) ≡ false → verdict s ≡ refused 5 1
+  pub first-bad : e < length s → isNumber digits (take e s) ≡ false → verdict s ≡ refused 5 1
   unfolding verdict byLines
   first-bad h b = rw (le-ltb limit (length s) small, first h, b)
 
-  pub first-value : e < length s → isNumber (take e s) ≡ true → verdict s ≡ byLength (value (take e s)) (lines (drop (e + 1) s)) (remainder (drop (e + 1) s))
+  pub first-value : e < length s → isNumber digits (take e s) ≡ true → verdict s ≡ byLength (value (take e s)) (lines (drop (e + 1) s)) (remainder (drop (e + 1) s))
   unfolding verdict byLines
   first-value h b = rw (le-ltb limit (length s) small, first h, remainder-found s 0 e (omega arith) is h, b)
 
@@ -155,7 +156,7 @@ module _ (text l : List ℕ) (ls : List (List ℕ)) (rest : List ℕ) (L : lines
   found-first : byLines (l ∷ ls) rest .code ≡ 0 → Found text (byLines (l ∷ ls) rest)
   unfolding byLines
   found-first e =
-      let q = not-refused (byLength (value l) ls rest) 4 1 (isNumber l) e in
+      let q = not-refused (byLength (value l) ls rest) 4 1 (isNumber digits l) e in
       let f = found-length (value l) refl (code (q .1) e) in
       record { N = f .N; H = f .H; is = q .1 ∙ f .is; says = f .says }
 
@@ -193,7 +194,7 @@ small-length (negsuc n) m ls rest h = record { code = omega arith; line = omega 
 small-lines : (ls : List (List ℕ)) (rest : List ℕ) → Small (byLines ls rest) (length ls + 1)
 unfolding byLines
 small-lines [] rest = record { code = omega arith; line = omega arith }
-small-lines (l ∷ ls) rest = small-cond (isNumber l) (small-length (value l) (length (l ∷ ls) + 1) ls rest (omega arith)) (record { code = omega arith; line = omega arith })
+small-lines (l ∷ ls) rest = small-cond (isNumber digits l) (small-length (value l) (length (l ∷ ls) + 1) ls rest (omega arith)) (record { code = omega arith; line = omega arith })
 
 small-verdict : (text : List ℕ) → Small (verdict text) (limit + 1)
 unfolding verdict

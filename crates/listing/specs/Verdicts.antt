@@ -3,12 +3,13 @@ use mathlib.Core.Bool.{cond}
 use mathlib.Core.List.{List, [], _∷_, map}
 use Prim.Native.Nat.{ℕ, suc, _+_, _/_}
 use lib.Dec.{ltb, eqb}
-use lib.ListN.{length, drop}
+use lib.ListN.{length, getD, drop}
 use lib.IntN.{ℤ, pos, negsuc}
 use Rattle.cosine.specs.Kernels.{tabled}
+use Rattle.text.specs.Number.{isNumber, value}
+use Rattle.text.specs.Lines.{lines, remainder}
 use Rattle.listing.specs.declared.verdict.Verdict.{Verdict}
-use Rattle.listing.specs.Number.{isNumber, value}
-use Rattle.listing.specs.Lines.{lines, remainder, isHop, samples}
+use Rattle.listing.specs.Hops.{digits, isHop, samples}
 
 -- the most bytes of a listing
 abbrev pub limit : ℕ
@@ -35,7 +36,7 @@ byLength (negsuc N) ls rest = refused 1 1
 -- line 1 is N, one number and nothing else
 unfoldable pub byLines : List (List ℕ) → List ℕ → Verdict
 byLines [] rest = refused 5 1
-byLines (l ∷ ls) rest = cond (isNumber l) (byLength (value l) ls rest) (refused 5 1)
+byLines (l ∷ ls) rest = cond (isNumber digits l) (byLength (value l) ls rest) (refused 5 1)
 
 -- size first, then the first faulty line
 unfoldable pub verdict : List ℕ → Verdict
@@ -44,3 +45,7 @@ verdict text = cond (ltb limit (length text)) (refused 6 0) (byLines (lines text
 -- the hops of a listing that is taken: sample i of hop j is entry i of entry j
 unfoldable pub hopsOf : List ℕ → List (List ℤ)
 hopsOf text = map samples (drop 1 (lines text))
+
+-- hop j
+abbrev pub hopOf : List ℕ → ℕ → List ℤ
+hopOf text j = getD (hopsOf text) j []

@@ -6,17 +6,16 @@ ghost use lib.ListN.{length};
 ghost use Rattle.cosine.specs.Kernels.{tabled};
 ghost use Rattle.stream.specs.StepLaws.{Bounded};
 ghost use Rattle.stream.specs.Steps.{next, hop};
-ghost use Rattle.recording.specs.declared.Route.the-variants.{Direct};
-ghost use Rattle.recording.specs.Analysis.{coefficients};
-ghost use Rattle.listing.specs.Verdicts.{hopsOf};
+ghost use Rattle.analysis.specs.declared.Route.the-variants.{Direct};
+ghost use Rattle.analysis.specs.Analysis.{coefficients};
+ghost use Rattle.text.specs.Buffers.{Put};
 ghost use Rattle.listing.specs.VerdictLaws.{Taken};
-ghost use Rattle.listing.specs.Print.{Put};
-ghost use Rattle.listing.specs.Listing.{recording, returned, rows};
+ghost use Rattle.listing.specs.Listing.{returnedHops, rows};
 ghost use Rattle.listing.specs.BlockLaws.{TwoHops, blockAt};
-use crate::hop::next_line;
 use crate::hop::read_hop;
 use crate::print::put_row;
 use stream::Stream;
+use text::line::next_line;
 
 // Samples of the longest block, and of its hop: a hop is what a stream has storage for.
 const BLOCK: usize = 2 * stream::STORAGE;
@@ -54,21 +53,22 @@ fn read_block(input: &[u8], place: usize, m: usize, out: &mut [i16])
 // The step of the block whose first hop's line starts at a place: the hop that it returns into `out`, and the stream to go on with.
 fn step(s: Stream, input: &[u8], place: usize, out: &mut [i16]) -> Stream
     requires { ⌜ T (tabled (s .n)) × Bounded (s .n / 2) (s .tail) × TwoHops (s .n / 2) (now input) place × (length (now out) ≡ s .n / 2) ⌝ }
-    ensures { λ r. ⌜ (r ≡ next s (coefficients Direct (s .n) (blockAt (now (input .entry)) place))) × (now (out .exit) ≡ hop s (coefficients Direct (s .n) (blockAt (now (input .entry)) place))) ⌝ }
+    ensures { λ r. ⌜ r ≡ next s (coefficients Direct (s .n) (blockAt (now (input .entry)) place)) ⌝ }
+    ensures { λ _. ⌜ now (out .exit) ≡ hop s (coefficients Direct (s .n) (blockAt (now (input .entry)) place)) ⌝ }
 {
     let n = s.n;
     let m = n / 2;
     let mut block = block_room();
     let mut x = spectrum_room();
     read_block(input, place, m, &mut block[..n]);
-    transform::analyse_direct(n, &block[..n], &mut x[..m]);
-    stream::advance(s, &x[..m], out)
+    analysis::direct::analyse(n, &block[..n], &mut x[..m]);
+    synthesis::advance(s, &x[..m], out)
 }
 
 // The rows of the inner hops. The step of block 0 is the run-in, and prints nothing.
 pub fn put_rows(input: &[u8], n: usize, hops: usize, out: &mut [u8], from: usize) -> usize
     requires { ⌜ Taken (now input) n hops × (3 ≤ hops) × (from + (hops - 2) * (7 * (n / 2) + 6) ≤ length (now out)) ⌝ }
-    ensures { λ r. ⌜ Put (rows (returned n (recording (hopsOf (now (input .entry))))) (hops - 2)) (now (out .entry)) from (now (out .exit)) r ⌝ }
+    ensures { λ r. ⌜ Put (rows (returnedHops n (now (input .entry))) (hops - 2)) (now (out .entry)) from (now (out .exit)) r ⌝ }
 {
     let m = n / 2;
     let mut hop = hop_room();

@@ -1,12 +1,11 @@
 // The listing program on bytes: `round_trip` takes any input, and what it writes is the definition of specs/Listing.
 mod bank;
 mod hop;
-mod line;
-mod number;
 mod print;
 mod verdict;
 
-ghost use Rattle.listing.specs.Listing.{listing, Written};
+ghost use Rattle.text.specs.Buffers.{Written};
+ghost use Rattle.listing.specs.Listing.{listing};
 
 // The most bytes that are printed.
 pub const ROOM: usize = 262144;

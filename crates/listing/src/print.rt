@@ -1,46 +1,16 @@
 // What the listing program prints, put into a buffer: each call answers the place behind what it put.
-ghost use mathlib.Core.Path.{_≡_};
-ghost use mathlib.Core.List.{_∷_, [], _++_};
-ghost use Prim.Native.Nat.{_+_, _*_, _≤_, _<_};
+ghost use mathlib.Core.List.{_∷_, _++_};
+ghost use Prim.Native.Nat.{_+_, _*_, _≤_};
 ghost use lib.ListN.{length};
-ghost use lib.IntN.{natAbs};
-ghost use Rattle.listing.specs.Bytes.{comma, word-s};
-ghost use Rattle.listing.specs.Number.{decimal, printed};
-ghost use Rattle.listing.specs.Print.{Put, header, row, refusal};
-use crate::line::COMMA;
-use crate::line::LINE_FEED;
-use crate::number::put_digits;
-use crate::number::put_number;
-
-fn put_byte(b: u8, out: &mut [u8], at: usize) -> usize
-    requires { ⌜ at < length (now out) ⌝ }
-    ensures { λ r. ⌜ Put (b ∷ []) (now (out .entry)) at (now (out .exit)) r ⌝ }
-{
-    out[at] = b;
-    at + 1
-}
-
-fn put_text(text: &[u8], out: &mut [u8], from: usize) -> usize
-    requires { ⌜ from + length (now text) ≤ length (now out) ⌝ }
-    ensures { λ r. ⌜ Put (now (text .entry)) (now (out .entry)) from (now (out .exit)) r ⌝ }
-{
-    let mut at = from;
-    let mut i = 0;
-    while i < text.len() {
-        at = put_byte(text[i], out, at);
-        i += 1;
-    }
-    at
-}
-
-// A further field: a comma and a number.
-fn put_field(v: i64, out: &mut [u8], at: usize) -> usize
-    requires { ⌜ (natAbs v ≤ 99999) × (at + 7 ≤ length (now out)) ⌝ }
-    ensures { λ r. ⌜ Put (comma ∷ printed v) (now (out .entry)) at (now (out .exit)) r ⌝ }
-{
-    let next = put_byte(COMMA, out, at);
-    put_number(v, out, next)
-}
+ghost use Rattle.text.specs.Bytes.{comma};
+ghost use Rattle.text.specs.Number.{decimal};
+ghost use Rattle.text.specs.Buffers.{Put};
+ghost use Rattle.listing.specs.Print.{word-s, header, row, refusal};
+use text::line::LINE_FEED;
+use text::number::put_digits;
+use text::print::put_byte;
+use text::print::put_field;
+use text::print::put_text;
 
 // A further field of the header: a comma and the name of sample i.
 fn put_name(i: usize, out: &mut [u8], at: usize) -> usize

@@ -2,14 +2,14 @@
 ghost use mathlib.Core.Path.{_≡_};
 ghost use Prim.Native.Nat.{_≤_};
 ghost use lib.ListN.{length, drop};
-ghost use Rattle.listing.specs.Lines.{lines, remainder};
-ghost use Rattle.listing.specs.Verdicts.{byHops, byLength, verdict};
-ghost use Rattle.listing.specs.Verdicts.{refused as Verdicts·refused};
-use crate::line::LINE_FEED;
-use crate::line::find;
-use crate::line::is_hop;
-use crate::number::is_number;
-use crate::number::value;
+ghost use Rattle.text.specs.Lines.{lines, remainder};
+ghost use Rattle.listing.specs.Verdicts.{byHops, byLength, verdict, refused as Verdicts·refused};
+use crate::hop::DIGITS;
+use crate::hop::is_hop;
+use text::line::LINE_FEED;
+use text::line::find;
+use text::number::is_number;
+use text::number::value;
 
 // The most bytes of a listing.
 const LIMIT: usize = 65536;
@@ -85,7 +85,7 @@ pub fn verify(input: &[u8]) -> Verdict
         return refused(5, 1);
     }
     let first = &input[..end];
-    if !is_number(first) {
+    if !is_number(first, DIGITS) {
         return refused(5, 1);
     }
     verify_length(input, end + 1, value(first))

@@ -8,12 +8,12 @@ use native.Mathlib.Omega.{arith}
 use lib.Dec.{T, lit<}
 use lib.IntN.{ℤ, pos, negsuc, natAbs, _+ℤ_, _-ℤ_, _*ℤ_}
 use lib.Signed.{_≤ℤ_}
-use Rattle.arithmetic.specs.Rounding.{rnd, clamp}
+use Rattle.arithmetic.specs.Rounding.{rnd, clamp, Sample}
 use Rattle.arithmetic.specs.Sums.{sumℕ}
 use Rattle.arithmetic.specs.Lists.{at}
 use Rattle.arithmetic.specs.IntegerLaws.{ints, posints}
 use Rattle.arithmetic.specs.OrderLaws.{abs-mul}
-use Rattle.arithmetic.specs.RoundingLaws.{Sample, sample-abs, rnd-near}
+use Rattle.arithmetic.specs.RoundingLaws.{sample-abs, rnd-near}
 use Rattle.arithmetic.specs.SumLaws.{sumℕ-le}
 use Rattle.cosine.specs.Kernels.{tabled, rising, falling}
 use Rattle.cosine.specs.LengthLaws.{Part, part-of}
@@ -102,7 +102,7 @@ module _ (N : ℕ) (t : T (tabled N)) {rise₁ fall₁ rise₂ fall₂ : ℕ →
       (near₁ : (k : ℕ) → k < N / 2 → natAbs (at Z₁ k -ℤ X N (y N rise₁ fall₁ x₁) k) ≤ Q)
       (near₂ : (k : ℕ) → k < N / 2 → natAbs (at Z₂ k -ℤ X N (y N rise₂ fall₂ x₂) k) ≤ Q) where
     pub returned-each : (n : ℕ) → n < N / 2 →
-        natAbs (clamp (rnd (V′ N rise₁ fall₁ Z₁ (N / 2 + n) +ℤ V′ N rise₂ fall₂ Z₂ n) (N * 2 ^ 30)) -ℤ at x₂ n) ≤ (Q + 8) / 16
+        natAbs (clamp (rnd (V′ N rise₁ fall₁ Z₁ (N / 2 + n) +ℤ V′ N rise₂ fall₂ Z₂ n) (N * 2 ^ 30)) -ℤ at x₂ n) ≤ (3 * Q + 36) / 64
     returned-each n p =
         le-trans
         (returned (N / 2 * Q) Z₁ Z₂
@@ -113,8 +113,8 @@ module _ (N : ℕ) (t : T (tabled N)) {rise₁ fall₁ rise₂ fall₂ : ℕ →
         twice : (M : ℕ) → 2 * M ≤ N → 2 * (M * Q) ≤ N * Q
         twice M h = omega (arith, mul-le-mul-right Q h)
 
-    -- changes of at most 7 alter no sample
-    pub returned-same : Q ≤ 7 → (n : ℕ) → n < N / 2 → clamp (rnd (V′ N rise₁ fall₁ Z₁ (N / 2 + n) +ℤ V′ N rise₂ fall₂ Z₂ n) (N * 2 ^ 30)) ≡ at x₂ n
+    -- changes of at most 9 alter no sample
+    pub returned-same : Q ≤ 9 → (n : ℕ) → n < N / 2 → clamp (rnd (V′ N rise₁ fall₁ Z₁ (N / 2 + n) +ℤ V′ N rise₂ fall₂ Z₂ n) (N * 2 ^ 30)) ≡ at x₂ n
     returned-same h n p =
         none-equal (clamp (rnd (V′ N rise₁ fall₁ Z₁ (N / 2 + n) +ℤ V′ N rise₂ fall₂ Z₂ n) (N * 2 ^ 30))) (at x₂ n) (rw (by-none Q h) at (returned-each n p))
 

@@ -4,7 +4,7 @@ use mathlib.Core.List.{List}
 use Prim.Native.Nat.{ℕ, _+_, _-_, _/_, _^_, _≤_, _<_}
 use lib.IntN.{ℤ, natAbs}
 use Rattle.arithmetic.specs.Lists.{at}
-use Rattle.arithmetic.specs.RoundingLaws.{Sample}
+use Rattle.arithmetic.specs.Rounding.{Sample}
 use Rattle.cosine.specs.PowerLaws.{Joint}
 
 -- x₁ and x₂ are the samples of two blocks, the second hop of the first block being the first hop of the second. Each block's window rises

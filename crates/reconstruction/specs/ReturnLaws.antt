@@ -5,10 +5,10 @@ use Prim.Native.Nat.{ℕ, zero, suc, _+_, _*_, _/_, _^_, _≤_, _<_}
 use native.Mathlib.Nat.{mul-le-mul-left, le-div-iff-mul-le, div-mul-le-self}
 use native.Mathlib.Omega.{arith, by-contra}
 use lib.IntN.{ℤ, pos, natAbs, _+ℤ_, _-ℤ_, _*ℤ_}
-use Rattle.arithmetic.specs.Rounding.{rnd, clamp}
+use Rattle.arithmetic.specs.Rounding.{rnd, clamp, Sample}
 use Rattle.arithmetic.specs.IntegerLaws.{ints, posints}
 use Rattle.arithmetic.specs.OrderLaws.{bounds, abs-add, abs-mul}
-use Rattle.arithmetic.specs.RoundingLaws.{Sample, rnd-near, clamp-near}
+use Rattle.arithmetic.specs.RoundingLaws.{rnd-near, clamp-near}
 
 -- q is E / (N × 2^30), rounded, and E within (6 A + 4 N) × 2^30 / 64 of N × 2^30 × s
 rounded : (N A : ℕ) (E s q : ℤ) → 64 * natAbs (E -ℤ pos (N * 2 ^ 30) *ℤ s) ≤ (6 * A + 4 * N) * 2 ^ 30 → natAbs (pos (N * 2 ^ 30) *ℤ q -ℤ E) ≤ N * 2 ^ 30 / 2 →
@@ -25,8 +25,8 @@ returned-near N A E s p S h =
     clamp-near q s ((6 * A + 36 * N) / (64 * N)) S
     (le-div-iff-mul-le {x = natAbs (q -ℤ s)} {y = 6 * A + 36 * N} (omega arith) .1 (omega (arith, rounded N A E s q h (rnd-near E {b = N * 2 ^ 30} (omega arith)))))
 
--- ---- each coefficient changed by at most Q, so 2 A = N Q: within (Q + 8) / 16
-pub by-each : (N A Q : ℕ) → 0 < N → 2 * A ≤ N * Q → (6 * A + 36 * N) / (64 * N) ≤ (Q + 8) / 16
+-- ---- each coefficient changed by at most Q, so 2 A = N Q: within (3 Q + 36) / 64
+pub by-each : (N A Q : ℕ) → 0 < N → 2 * A ≤ N * Q → (6 * A + 36 * N) / (64 * N) ≤ (3 * Q + 36) / 64
 by-each N A Q p h =
     let d = (6 * A + 36 * N) / (64 * N) in
     let m : d * (64 * N) ≤ 6 * A + 36 * N = div-mul-le-self (6 * A + 36 * N) (64 * N) in
@@ -35,6 +35,10 @@ by-each N A Q p h =
   where
     cancel : (a b : ℕ) → N * a ≤ N * b → a ≤ b
     cancel a b h = by-contra a b (λ q. omega (arith, mul-le-mul-left N q))
+
+-- which is no more than what is asked, also where more stands for Q there
+pub by-asked : (P Q : ℕ) → P ≤ Q → (3 * P + 36) / 64 ≤ (Q + 8) / 16
+by-asked P Q h = omega arith
 
 -- the changes of a block at most A in all: within (A + 4 N) / 8 N
 pub by-all : (N A : ℕ) → 0 < N → (6 * A + 36 * N) / (64 * N) ≤ (A + 4 * N) / (8 * N)
@@ -47,8 +51,8 @@ by-all N A p =
     go zero m = omega arith
     go (suc d) m = omega arith
 
--- changes of at most 7 move no sample
-pub by-none : (Q : ℕ) → Q ≤ 7 → (Q + 8) / 16 ≡ 0
+-- changes of at most 9 move no sample
+pub by-none : (Q : ℕ) → Q ≤ 9 → (3 * Q + 36) / 64 ≡ 0
 by-none Q p = omega arith
 
 pub none-equal : (a b : ℤ) → natAbs (a -ℤ b) ≤ 0 → a ≡ b

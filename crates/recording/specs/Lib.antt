@@ -1,4 +1,3 @@
-pub mod Analysis
 pub mod Recordings
 pub mod JoinLaws
 pub mod RecordingLaws

@@ -1,44 +1,21 @@
 -- Laws of whole recordings: the lengths of their parts, where block b lies, and the stream after b steps.
-use mathlib.Core.Path.{_≡_, refl}
+use mathlib.Core.Path.{_≡_}
 use mathlib.Core.List.{List}
-use Prim.Native.Nat.{ℕ, zero, suc, _+_, _-_, _*_, _/_, _^_, _≤_, _<_}
+use Prim.Native.Nat.{ℕ, _+_, _-_, _*_, _/_, _^_, _≤_, _<_}
 use native.Mathlib.Nat.{add-mul, one-mul, mul-le-mul}
-use native.Mathlib.Numerals.{add-one}
 use native.Mathlib.Omega.{arith}
 use lib.Dec.{T}
 use lib.ListN.{length, take, drop}
 use lib.IntN.{ℤ}
 use Rattle.arithmetic.specs.Lists.{Small}
-use Rattle.arithmetic.specs.ListLaws.{length-table, part-length, part-small}
-use Rattle.cosine.specs.Kernels.{tabled, rising, falling}
+use Rattle.arithmetic.specs.ListLaws.{part-length, part-small}
+use Rattle.cosine.specs.Kernels.{tabled}
 use Rattle.cosine.specs.LengthLaws.{length-of}
-use Rattle.transform.specs.Analysis.{y, X, direct}
-use Rattle.short_route.specs.ShortRoute.{shortX, short}
-use Rattle.short_route.specs.OfferLaws as O
-use Rattle.stream.specs.Synthesis.{fresh}
-use Rattle.stream.specs.Steps.{next, hop}
-use Rattle.stream.specs.NextLaws.{Fine, fine-fresh, fine-next, next-n, hop-long}
-use Rattle.recording.specs.declared.Route.{Route}
-use Rattle.recording.specs.declared.Route.the-variants.{Direct, Short}
-use Rattle.recording.specs.Analysis.{offered, spectrum, coefficients, block}
-use Rattle.recording.specs.Recordings.{part, streamAfter}
+use Rattle.stream.specs.Steps.{streamAfter}
+use Rattle.stream.specs.NextLaws as S
+use Rattle.stream.specs.NextLaws.{Fine}
+use Rattle.recording.specs.Recordings.{block, part}
 use Rattle.recording.specs.JoinLaws.{within}
-
--- a route is offered at tabled lengths only
-pub offered-tabled : (route : Route) (N : ℕ) → T (offered route N) → T (tabled N)
-unfolding offered
-offered-tabled Direct N o = o
-offered-tabled Short N o = O.offered-tabled N o
-
--- M coefficients by either route
-spectrum-length : (route : Route) (N : ℕ) (u : ℕ → ℤ) → length (spectrum route N u) ≡ N / 2
-unfolding spectrum direct short
-spectrum-length Direct N u = length-table (X N u) (N / 2)
-spectrum-length Short N u = length-table (shortX N u) (N / 2)
-
-pub coefficients-length : (route : Route) (N : ℕ) (x : List ℤ) → length (coefficients route N x) ≡ N / 2
-unfolding coefficients
-coefficients-length route N x = spectrum-length route N (y N (rising N) (falling N) x)
 
 -- ---- where block b lies
 pub record Lies (N B samples places b : ℕ) : Type 0 where
@@ -73,20 +50,6 @@ pub part-is : (N b : ℕ) (X : List ℤ) → b * (N / 2) + N / 2 - b * (N / 2) �
 unfolding part
 part-is N b X e = rw e
 
--- ---- the stream after b steps, whatever the coefficients
-module _ (N : ℕ) (X : List ℤ) where
-  pub stream-n : (b : ℕ) → streamAfter N X b .n ≡ N
-  unfolding streamAfter fresh
-  stream-n zero = refl
-  stream-n (suc b) = next-n N (streamAfter N X b) (stream-n b) (part N X b)
-
-  pub hop-length : (b : ℕ) → length (hop (streamAfter N X b) (part N X b)) ≡ N / 2
-  hop-length b = hop-long N (streamAfter N X b) (stream-n b) (part N X b)
-
-  pub stream-next : (b : ℕ) → streamAfter N X (b + 1) ≡ next (streamAfter N X b) (part N X b)
-  unfolding streamAfter
-  stream-next b = rw (add-one b)
-
 -- ---- on coefficients in range
 module _ (N : ℕ) (t : T (tabled N)) (B : ℕ) (X : List ℤ) (long : length X ≡ B * (N / 2)) (range : Small X (2 ^ 29)) where
   pub part-length-is : (b : ℕ) → b < B → length (part N X b) ≡ N / 2
@@ -97,10 +60,5 @@ module _ (N : ℕ) (t : T (tabled N)) (B : ℕ) (X : List ℤ) (long : length X 
   unfolding part
   part-range b p = part-small X (b * (N / 2)) (N / 2) (N / 2) (omega arith) (omega (arith, within b B (N / 2) p)) (2 ^ 29) range
 
-  pub stream-fine : (b : ℕ) → b ≤ B → Fine N (streamAfter N X b)
-  unfolding streamAfter
-  stream-fine zero p = fine-fresh N t
-  stream-fine (suc b) p =
-      let less : b < B = omega arith in
-      fine-next N t (streamAfter N X b) (stream-fine b (omega arith)) (part N X b)
-      (λ k q. part-range b less .small k (omega (arith, part-length-is b less)))
+  pub stream-fine : (b : ℕ) → b ≤ B → Fine N (streamAfter N (part N X) b)
+  stream-fine = S.stream-fine N (part N X) t B (λ b less k q. part-range b less .small k (omega (arith, part-length-is b less)))

@@ -1,4 +1,4 @@
-// The routes, one block by either of them, and whole recordings block by block.
+// Whole recordings, block by block.
 // No function here is a public call: `filter_bank` calls them, under their requires, after every check.
 ghost use mathlib.Core.Path.{_≡_};
 ghost use Prim.Native.Nat.{_+_, _*_, _/_, _^_, _≤_};
@@ -6,25 +6,9 @@ ghost use lib.Dec.{T};
 ghost use lib.ListN.{length};
 ghost use Rattle.arithmetic.specs.Lists.{Small};
 ghost use Rattle.cosine.specs.Kernels.{tabled};
-ghost use Rattle.recording.specs.Analysis.{offered, coefficients};
+ghost use Rattle.analysis.specs.Analysis.{offered};
 ghost use Rattle.recording.specs.Recordings.{analysis, synthesis};
-
-// How a block is analysed. The short route is document 01's term for the one in thirds.
-pub enum Route {
-    Direct,
-    Short,
-}
-
-// A valid block's coefficients, by a route.
-pub fn analyse_block(route: Route, n: usize, x: &[i16], out: &mut [i32])
-    requires { ⌜ T (offered route n) × (length (now x) ≡ n) × (length (now out) ≡ n / 2) ⌝ }
-    ensures { λ _. ⌜ now (out .exit) ≡ coefficients route n (now (x .entry)) ⌝ }
-{
-    match route {
-        Route::Direct => transform::analyse_direct(n, x, out),
-        Route::Short => short_route::analyse(n, x, out),
-    }
-}
+use analysis::Route;
 
 // The coefficients of a recording, block after block: block b covers hops b and b + 1.
 pub fn analyse(route: Route, n: usize, blocks: usize, x: &[i16], out: &mut [i32])
@@ -35,7 +19,7 @@ pub fn analyse(route: Route, n: usize, blocks: usize, x: &[i16], out: &mut [i32]
     let mut b = 0;
     while b < blocks {
         let at = b * m;
-        analyse_block(route, n, &x[at..at + n], &mut out[at..at + m]);
+        analysis::analyse_block(route, n, &x[at..at + n], &mut out[at..at + m]);
         b += 1;
     }
 }
@@ -49,6 +33,6 @@ pub fn synthesise(n: usize, blocks: usize, x: &[i32], out: &mut [i16])
     let mut tail = [0i64; stream::STORAGE];
     for h in 0..blocks {
         let at = h * m;
-        stream::advance_tail(n, &x[at..at + m], &mut tail, &mut out[at..at + m]);
+        synthesis::advance_tail(n, &x[at..at + m], &mut tail, &mut out[at..at + m]);
     }
 }

@@ -1,6 +1,12 @@
-// What the test programs print: fields parted by commas, lines ended by a line feed. What is written is compared with stored
-// output and not proved: no contract can speak of it.
+// What the test programs share: what they print, and in `noise` the numbers that they make up. Fields are parted by commas, lines ended by
+// a line feed. What is written is compared with stored output and not proved: no contract can speak of it.
+pub mod noise;
+
+ghost use Prim.Native.Nat.{_<_, _^_};
 use libc::STDOUT_FILENO;
+
+// The most entries of a buffer that are shown one by one.
+const SHORT: usize = 160;
 
 // A number with its sign.
 pub fn number(v: i64) {
@@ -27,4 +33,65 @@ pub fn word(text: &[u8]) {
 
 pub fn end() {
     io::write_all(STDOUT_FILENO, b"\n");
+}
+
+// A running sum with one more entry: a change of any one entry changes it.
+fn summed(h: u64, v: i64) -> u64
+    requires { ⌜ h < 2 ^ 32 ⌝ }
+    ensures { λ r. ⌜ r < 2 ^ 32 ⌝ }
+{
+    let size = arithmetic::size(v) % 4294967296;
+    if v < 0 {
+        return (h * 31 + size * 2 + 1) % 4294967296;
+    }
+    (h * 31 + size * 2) % 4294967296
+}
+
+fn sum_coefficients(c: &[i32]) -> u64 {
+    let mut h = 0;
+    for k in 0..c.len() {
+        h = summed(h, c[k] as i64);
+    }
+    h
+}
+
+fn sum_samples(x: &[i16]) -> u64 {
+    let mut h = 0;
+    for i in 0..x.len() {
+        h = summed(h, x[i] as i64);
+    }
+    h
+}
+
+fn list_coefficients(c: &[i32]) {
+    for k in 0..c.len() {
+        field(c[k] as i64);
+    }
+}
+
+fn list_samples(x: &[i16]) {
+    for i in 0..x.len() {
+        field(x[i] as i64);
+    }
+}
+
+// The entries of a buffer, or the length and the sum of a long one, and the line's end.
+pub fn coefficients(c: &[i32]) {
+    if c.len() <= SHORT {
+        list_coefficients(c);
+    } else {
+        count(c.len());
+        count(sum_coefficients(c) as usize);
+    }
+    end();
+}
+
+pub fn samples(x: &[i16]) {
+    if x.len() <= SHORT {
+        list_samples(x);
+    } else {
+        count(x.len());
+        count(sum_samples(x) as usize);
+    }
+    end();
 }

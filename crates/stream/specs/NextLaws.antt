@@ -1,8 +1,9 @@
 -- Laws of a stream that was made fresh, step by step: its hops and its tail by their entries, and what it holds after any steps on
 -- coefficients in range.
-use mathlib.Core.Path.{_≡_, refl, _∙_}
+use mathlib.Core.Path.{_≡_, refl, ap, _∙_}
 use mathlib.Core.List.{List, _++_}
 use Prim.Native.Nat.{ℕ, zero, suc, _+_, _-_, _*_, _/_, _^_, _≤_, _<_}
+use native.Mathlib.Numerals.{add-one}
 use native.Mathlib.Omega.{arith}
 use lib.Dec.{T}
 use lib.ListN.{length, drop, replicate, length-append, length-drop, length-replicate, getD-replicate, List·getD-append}
@@ -18,7 +19,7 @@ use Rattle.transform.specs.SizeLaws.{V-size}
 use Rattle.stream.specs.declared.Stream.{Stream}
 use Rattle.stream.specs.Synthesis as S
 use Rattle.stream.specs.Synthesis.{storage}
-use Rattle.stream.specs.Steps.{next, hop}
+use Rattle.stream.specs.Steps.{next, hop, streamAfter, returned}
 use Rattle.stream.specs.StepLaws.{rising-size, falling-size}
 
 drop-replicate : {A : Type 0} (k n : ℕ) (a : A) → drop k (replicate n a) ≡ replicate (n - k) a
@@ -55,7 +56,7 @@ module _ (N : ℕ) (s : Stream) (e : s .n ≡ N) (x : List ℤ) where
   pub next-kept : drop (N / 2) (next s x .tail) ≡ drop (N / 2) (s .tail)
   next-kept = let f : ℕ → ℤ = λ n. v (N / 2 + n) in rw next-is (drop-at (table (N / 2) f) (drop (N / 2) (s .tail)) (N / 2) (length-table f (N / 2)))
 
-  next-long : N / 2 ≤ length (s .tail) → length (next s x .tail) ≡ length (s .tail)
+  pub next-long : N / 2 ≤ length (s .tail) → length (next s x .tail) ≡ length (s .tail)
   next-long h =
       let f : ℕ → ℤ = λ n. v (N / 2 + n) in
       rw next-is (length-append (table (N / 2) f) (drop (N / 2) (s .tail)) ∙ omega (arith, length-table f (N / 2), length-drop (N / 2) (s .tail)))
@@ -88,3 +89,32 @@ module _ (N : ℕ) (t : T (tabled N)) where
     long = next-long N s (fine .n-is) x (omega (arith, room, fine .long)) ∙ fine .long;
     zeros = next-kept N s (fine .n-is) x ∙ fine .zeros;
   }
+
+-- ---- the stream after b steps, whatever the coefficients
+module _ (N : ℕ) (blocks : ℕ → List ℤ) where
+  pub stream-n : (b : ℕ) → streamAfter N blocks b .n ≡ N
+  unfolding streamAfter S.fresh
+  stream-n zero = refl
+  stream-n (suc b) = next-n N (streamAfter N blocks b) (stream-n b) (blocks b)
+
+  pub stream-next : (b : ℕ) → streamAfter N blocks (b + 1) ≡ next (streamAfter N blocks b) (blocks b)
+  unfolding streamAfter
+  stream-next b = rw (add-one b)
+
+  pub returned-long : (b : ℕ) → length (returned N blocks b) ≡ N / 2
+  unfolding returned
+  returned-long b = hop-long N (streamAfter N blocks b) (stream-n b) (blocks b)
+
+  -- the hop that step b + 1 returns is made of the second half of V of block b and the first half of V of block b + 1
+  pub returned-at : (b n : ℕ) → n < N / 2 →
+      at (returned N blocks (suc b)) n ≡ clamp (rnd (V′ N (rising N) (falling N) (blocks b) (N / 2 + n) +ℤ V′ N (rising N) (falling N) (blocks (suc b)) n) (N * 2 ^ 30))
+  unfolding returned streamAfter
+  returned-at b n p =
+      hop-at N (streamAfter N blocks (suc b)) (stream-n (suc b)) (blocks (suc b)) n p
+      ∙ ap (λ (z : ℤ). clamp (rnd (z +ℤ V′ N (rising N) (falling N) (blocks (suc b)) n) (N * 2 ^ 30))) (next-at N (streamAfter N blocks b) (stream-n b) (blocks b) n p)
+
+  -- on coefficients in range
+  pub stream-fine : T (tabled N) → (B : ℕ) → ((b : ℕ) → b < B → (k : ℕ) → k < N / 2 → natAbs (at (blocks b) k) ≤ 2 ^ 29) → (b : ℕ) → b ≤ B → Fine N (streamAfter N blocks b)
+  unfolding streamAfter
+  stream-fine t B range zero p = fine-fresh N t
+  stream-fine t B range (suc b) p = fine-next N t (streamAfter N blocks b) (stream-fine t B range b (omega arith)) (blocks b) (range b (omega arith))

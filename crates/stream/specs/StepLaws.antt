@@ -7,18 +7,37 @@ use lib.Dec.{T}
 use lib.ListN.{length, drop}
 use lib.IntN.{ℤ, pos, natAbs, _+ℤ_}
 use Rattle.arithmetic.specs.Rounding.{rnd, clamp}
-use Rattle.arithmetic.specs.Lists.{at, table}
+use Rattle.arithmetic.specs.Lists.{at, table, Small}
 use Rattle.arithmetic.specs.ListLaws.{table-ext, getD-table, length-table}
 use Rattle.cosine.specs.Kernels.{tabled, rising, falling}
-use Rattle.cosine.specs.LengthLaws.{length-of, part-of}
+use Rattle.cosine.specs.LengthLaws.{Part}
 use Rattle.cosine.specs.KernelLaws.{W-size}
 use Rattle.transform.specs.Synthesis.{V′}
+use Rattle.transform.specs.Stages.{Input}
 use Rattle.transform.specs.SizeLaws.{V-size}
-use Rattle.stream.specs.Synthesis.{sample, hop, newTail}
+use Rattle.stream.specs.Synthesis.{storage, sample, hop, newTail}
 
 -- the first M entries lie within plus or minus M × 2^55
 pub record Bounded (M : ℕ) (xs : List ℤ) : Type 0 where
   pub within : (i : ℕ) → i < M → natAbs (at xs i) ≤ M * 2 ^ 55
+
+-- m entries at least, and the first m within that limit
+pub record Held (m : ℕ) (xs : List ℤ) : Type 0 where
+  pub long : m ≤ length xs
+  pub bounded : Bounded m xs
+
+-- ---- a step of N on valid input: coefficients, a tail, and room for the hop
+pub record Step (N : ℕ) (x tail out : List ℤ) : Type 0 where
+  pub part : Part N
+  pub most : N ≤ 2 * storage
+  pub input : Input N x
+  pub stored : length tail ≡ storage
+  pub bounded : Bounded (N / 2) tail
+  pub room : length out ≡ N / 2
+
+-- the same as a tabled length's callers show it
+abbrev pub Valid : ℕ → List ℤ → List ℤ → List ℤ → Type 0
+Valid N x tail out = T (tabled N) × (length x ≡ N / 2) × Small x (2 ^ 29) × (length tail ≡ storage) × Bounded (N / 2) tail × (length out ≡ N / 2)
 
 -- ---- the two halves of the window
 pub rising-size : (N n : ℕ) → natAbs (rising N n) ≤ 2 ^ 26
@@ -30,13 +49,13 @@ unfolding falling
 falling-size N n = W-size N (N / 2 + n)
 
 -- ---- V as the code has it
-module _ (N : ℕ) (t : T (tabled N)) (X vl : List ℤ) (small : (k : ℕ) → k < N / 2 → natAbs (at X k) ≤ 2 ^ 29)
+module _ (N : ℕ) (t : Part N) (X vl : List ℤ) (small : (k : ℕ) → k < N / 2 → natAbs (at X k) ≤ 2 ^ 29)
     (is : vl ≡ table N (V′ N (rising N) (falling N) X)) where
   abbrev values : ℕ → ℤ
   values = V′ N (rising N) (falling N) X
 
   two : N / 2 + N / 2 ≡ N
-  two = omega (arith, length-of N t .twelve)
+  two = omega (arith, t .four)
 
   entry : (i : ℕ) → i < N → at vl i ≡ values i
   entry i p = ap (λ (l : List ℤ). at l i) is ∙ getD-table values (pos 0) N i p
@@ -47,7 +66,7 @@ module _ (N : ℕ) (t : T (tabled N)) (X vl : List ℤ) (small : (k : ℕ) → k
   pub values-bounded : Bounded (N / 2) vl
   values-bounded = record {
     within = λ i p. rw (entry i (omega arith))
-        (V-size N (rising N) (falling N) (part-of N t) (λ n q. rising-size N n) (λ n q. falling-size N n) X small i (omega arith));
+        (V-size N (rising N) (falling N) t (λ n q. rising-size N n) (λ n q. falling-size N n) X small i (omega arith));
   }
 
   pub hop-step : (tail out : List ℤ) → out ≡ table (N / 2) (λ i. clamp (rnd (at tail i +ℤ at vl i) (N * 2 ^ 30))) → out ≡ hop N (rising N) (falling N) tail X

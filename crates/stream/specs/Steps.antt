@@ -1,5 +1,6 @@
--- One step of a stream, with the sine window: definitions. Document 01, 'Synthesis stream'.
+-- One step of a stream, with the sine window, and the steps from a fresh stream: definitions. Document 01, 'Synthesis stream'.
 use mathlib.Core.List.{List}
+use Prim.Native.Nat.{ℕ, zero, suc}
 use lib.IntN.{ℤ}
 use Rattle.cosine.specs.Kernels.{rising, falling}
 use Rattle.stream.specs.declared.Stream.{Stream}
@@ -11,3 +12,12 @@ next s x = record { n = s .n; tail = S.newTail (s .n) (rising (s .n)) (falling (
 
 unfoldable pub hop : Stream → List ℤ → List ℤ
 hop s x = S.hop (s .n) (rising (s .n)) (falling (s .n)) (s .tail) x
+
+-- the stream after b steps from a fresh stream, `blocks b` being the coefficients that step b brings
+unfoldable pub streamAfter : ℕ → (ℕ → List ℤ) → ℕ → Stream
+streamAfter N blocks zero = S.fresh N
+streamAfter N blocks (suc b) = next (streamAfter N blocks b) (blocks b)
+
+-- and the hop that step b returns
+unfoldable pub returned : ℕ → (ℕ → List ℤ) → ℕ → List ℤ
+returned N blocks b = hop (streamAfter N blocks b) (blocks b)

@@ -4,20 +4,22 @@ use mathlib.Core.List.{List}
 use Prim.Native.Nat.{ℕ, _-_, _*_, _/_, _^_, _≤_, _<_}
 use native.Mathlib.Omega.{arith}
 use native.Mathlib.Decide.{decLt}
-use lib.Dec.{T}
 use lib.IntN.{ℤ, pos, _*ℤ_}
 use Rattle.arithmetic.specs.Rounding.{rnd}
 use Rattle.arithmetic.specs.Lists.{at, table}
 use Rattle.arithmetic.specs.ListLaws.{table-ext, getD-table}
 use Rattle.arithmetic.specs.SumLaws.{sum-ext}
-use Rattle.cosine.specs.Kernels.{tabled, rising, falling, K, F}
-use Rattle.cosine.specs.LengthLaws.{Part, part-of, length-of}
+use Rattle.cosine.specs.Kernels.{rising, falling, K, F}
+use Rattle.cosine.specs.LengthLaws.{Part, Length}
 use Rattle.cosine.specs.KernelLaws.{F-symmetric}
 use Rattle.transform.specs.Analysis.{window, y, S, X, direct}
 use Rattle.transform.specs.FoldLaws.{folded, S-folded}
 use Rattle.transform.specs.SizeLaws.{window-left, window-right}
-use Rattle.transform.specs.HalfLaws.{riseList, fallList, rise-at, fall-at}
+use Rattle.tables.specs.HalfLaws.{riseList, fallList, rise-at, fall-at}
 use Rattle.transform.specs.InverseLaws.{folds}
+
+from : (N : ℕ) → Length N → Part N
+from N t = record { four = omega (arith, t .twelve); parts = t .parts; some = t .some }
 
 -- the windowed block depends on M entries of each half
 pub y-ext : (N : ℕ) → Part N → (l r l′ r′ : ℕ → ℤ) (x : List ℤ) → ((n : ℕ) → n < N / 2 → l n ≡ l′ n) → ((n : ℕ) → n < N / 2 → r n ≡ r′ n) →
@@ -41,8 +43,8 @@ unfolding direct X
 direct-ext N u v e = table-ext (N / 2) (X N u) (X N v) (λ k p. ap (λ (z : ℤ). rnd z (2 ^ 28)) (S-ext N u v e k))
 
 -- with the lists that the code lends
-pub y-lent : (N : ℕ) → T (tabled N) → (x : List ℤ) (n : ℕ) → n < N → y N (at (riseList N)) (at (fallList N)) x n ≡ y N (rising N) (falling N) x n
-y-lent N t x = y-ext N (part-of N t) (at (riseList N)) (at (fallList N)) (rising N) (falling N) x (rise-at N) (fall-at N)
+pub y-lent : (N : ℕ) → Length N → (x : List ℤ) (n : ℕ) → n < N → y N (at (riseList N)) (at (fallList N)) x n ≡ y N (rising N) (falling N) x n
+y-lent N t x = y-ext N (from N t) (at (riseList N)) (at (fallList N)) (rising N) (falling N) x (rise-at N) (fall-at N)
 
 -- the sums of the folded block with the kernel are S, and their rounded quotients the coefficients
 pub S-folds : (N : ℕ) → Part N → (u : ℕ → ℤ) (k : ℕ) → folds N (table (N / 2) (folded N u)) k ≡ S N u k
@@ -52,21 +54,21 @@ S-folds N len u k =
     (λ j q. rw (getD-table (folded N u) (pos 0) (N / 2) j q, F-symmetric N k j))
     ∙ sym (S-folded N len u k)
 
-pub direct-folded : (N : ℕ) → T (tabled N) → (u : ℕ → ℤ) → table (N / 2) (λ k. rnd (folds N (table (N / 2) (folded N u)) k) (2 ^ 28)) ≡ direct N u
+pub direct-folded : (N : ℕ) → Length N → (u : ℕ → ℤ) → table (N / 2) (λ k. rnd (folds N (table (N / 2) (folded N u)) k) (2 ^ 28)) ≡ direct N u
 unfolding direct X
 direct-folded N t u =
     table-ext (N / 2) (λ k. rnd (folds N (table (N / 2) (folded N u)) k) (2 ^ 28)) (X N u)
-    (λ k p. ap (λ (z : ℤ). rnd z (2 ^ 28)) (S-folds N (part-of N t) u k))
+    (λ k p. ap (λ (z : ℤ). rnd z (2 ^ 28)) (S-folds N (from N t) u k))
 
 -- ---- what the code has, step by step: the lists that are lent, the folded block, the coefficients
-module _ (N : ℕ) (t : T (tabled N)) (x : List ℤ) where
+module _ (N : ℕ) (t : Length N) (x : List ℤ) where
   abbrev lent : ℕ → ℤ
   lent = y N (at (riseList N)) (at (fallList N)) x
 
   pub folded-step : (m : ℕ) (left right z : List ℤ) → m ≡ N / 2 → left ≡ riseList N → right ≡ fallList N →
       z ≡ table m (folded (2 * m) (y (2 * m) (at left) (at right) x)) → z ≡ table (N / 2) (folded N lent)
   folded-step m left right z e l r h =
-      let two : 2 * (N / 2) ≡ N = omega (arith, length-of N t .twelve) in
+      let two : 2 * (N / 2) ≡ N = omega (arith, t .twelve) in
       rw (e, two, l, r) at h
 
   pub direct-step : (m : ℕ) (z s out : List ℤ) → m ≡ N / 2 → z ≡ table (N / 2) (folded N lent) → s ≡ table (N / 2) (folds N z) →

@@ -21,7 +21,10 @@ pub windowed-size : (half : List ℤ) (i : ℕ) (x : List ℤ) (n : ℕ) → nat
 unfolding windowed
 windowed-size half i x n p q = rnd-le (at half i *ℤ at x n) (lit< tt) (abs-mul-le (at half i) (at x n) p q)
 
--- M samples to a hop: the block is 2 M long, and M is even
+-- M samples to a hop: the block is 2 M long, and M is even. The block, windowed and folded
+abbrev pub hops : ℕ → List ℤ → List ℤ → List ℤ → ℕ → ℤ
+hops M left right x = folded (2 * M) (y (2 * M) (at left) (at right) x)
+
 module _ (M : ℕ) (left right x : List ℤ) where
   pub y-first : (n : ℕ) → n < M → y (2 * M) (at left) (at right) x n ≡ windowed left n x n
   unfolding y windowed
@@ -35,7 +38,7 @@ module _ (M : ℕ) (left right x : List ℤ) where
 
   -- the first hop makes the upper half: a sample less its mirrored one
   pub folded-upper : (j : ℕ) → 2 * (M / 2) ≡ M → M / 2 ≤ j → j < M →
-      windowed left (j - M / 2) x (j - M / 2) -ℤ windowed left (3 * (M / 2) - 1 - j) x (3 * (M / 2) - 1 - j) ≡ folded (2 * M) (y (2 * M) (at left) (at right) x) j
+      windowed left (j - M / 2) x (j - M / 2) -ℤ windowed left (3 * (M / 2) - 1 - j) x (3 * (M / 2) - 1 - j) ≡ hops M left right x j
   folded-upper j e p q =
       let h : 2 * M / 4 ≡ M / 2 = omega arith in
       let f = rw h at (folded-high (2 * M) (y (2 * M) (at left) (at right) x) j (omega arith)) in
@@ -43,7 +46,7 @@ module _ (M : ℕ) (left right x : List ℤ) where
 
   -- the second hop makes the lower half: a sample and its mirrored one, both with the sign changed
   pub folded-lower : (j : ℕ) → 2 * (M / 2) ≡ M → j < M / 2 →
-      negℤ (windowed right (M / 2 - 1 - j) x (3 * (M / 2) - 1 - j)) -ℤ windowed right (M / 2 + j) x (3 * (M / 2) + j) ≡ folded (2 * M) (y (2 * M) (at left) (at right) x) j
+      negℤ (windowed right (M / 2 - 1 - j) x (3 * (M / 2) - 1 - j)) -ℤ windowed right (M / 2 + j) x (3 * (M / 2) + j) ≡ hops M left right x j
   folded-lower j e p =
       let h : 2 * M / 4 ≡ M / 2 = omega arith in
       let f = rw h at (folded-low (2 * M) (y (2 * M) (at left) (at right) x) j (omega arith)) in

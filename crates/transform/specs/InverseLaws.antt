@@ -5,7 +5,7 @@ use mathlib.Core.List.{List}
 use Prim.Native.Nat.{ℕ, _+_, _-_, _*_, _/_, _^_, _≤_, _<_}
 use native.Mathlib.Omega.{arith}
 use native.Mathlib.Decide.{decLt}
-use lib.Dec.{T, ltb}
+use lib.Dec.{ltb}
 use lib.ListN.{length}
 use lib.IntN.{ℤ, pos, negℤ, _*ℤ_}
 use Rattle.arithmetic.specs.Rounding.{rnd}
@@ -13,13 +13,13 @@ use Rattle.arithmetic.specs.Sums.{sum}
 use Rattle.arithmetic.specs.Lists.{at, table}
 use Rattle.arithmetic.specs.ListLaws.{table-ext, length-table, getD-table}
 use Rattle.arithmetic.specs.TestLaws.{cond-lt, cond-ge}
-use Rattle.cosine.specs.Kernels.{tabled, rising, falling, F}
-use Rattle.cosine.specs.LengthLaws.{Part, part-of, length-of}
+use Rattle.cosine.specs.Kernels.{rising, falling, F}
+use Rattle.cosine.specs.LengthLaws.{Part, Length}
 use Rattle.transform.specs.Analysis.{window}
 use Rattle.transform.specs.Synthesis.{U, V′}
 use Rattle.transform.specs.FoldLaws.{inverse-first, inverse-middle, inverse-last}
 use Rattle.transform.specs.SizeLaws.{window-left, window-right}
-use Rattle.transform.specs.HalfLaws.{riseList, fallList, rise-at, fall-at}
+use Rattle.tables.specs.HalfLaws.{riseList, fallList, rise-at, fall-at}
 
 -- the sum over k of X(k) × F(j,k)
 unfoldable pub folds : ℕ → List ℤ → ℕ → ℤ
@@ -154,13 +154,16 @@ V-ext N len l r l′ r′ X p q n b = go (decLt n (N / 2))
         rw (window-right N l r n v, window-right N l′ r′ n v, q (n - N / 2) (omega (arith, len .four)))
 
 -- ---- what the code has: V from the lists that are lent
-module _ (N : ℕ) (t : T (tabled N)) (X : List ℤ) where
+from : (N : ℕ) → Length N → Part N
+from N t = record { four = omega (arith, t .twelve); parts = t .parts; some = t .some }
+
+module _ (N : ℕ) (t : Length N) (X : List ℤ) where
   pub value-step : (left right s v : List ℤ) (n : ℕ) → n ≡ N → left ≡ riseList N → right ≡ fallList N → s ≡ table (N / 2) (folds N X) →
       v ≡ table n (valueAt left right s) → v ≡ table N (V′ N (rising N) (falling N) X)
   value-step left right s v n e l r f h =
-      let two : 2 * (N / 2) ≡ N = omega (arith, length-of N t .twelve) in
+      let two : 2 * (N / 2) ≡ N = omega (arith, t .twelve) in
       rw (e, l, r) at h
       ∙ table-ext N (valueAt (riseList N) (fallList N) s) (V′ N (at (riseList N)) (at (fallList N)) X)
-      (λ n p. rw two at (value-is (N / 2)) (part-of N t) (riseList N) (fallList N) s X f n p)
+      (λ n p. rw two at (value-is (N / 2)) (from N t) (riseList N) (fallList N) s X f n p)
       ∙ table-ext N (V′ N (at (riseList N)) (at (fallList N)) X) (V′ N (rising N) (falling N) X)
-      (V-ext N (part-of N t) (at (riseList N)) (at (fallList N)) (rising N) (falling N) X (rise-at N) (fall-at N))
+      (V-ext N (from N t) (at (riseList N)) (at (fallList N)) (rising N) (falling N) X (rise-at N) (fall-at N))

@@ -3,7 +3,7 @@ pub mod Synthesis
 pub mod FoldLaws
 pub mod SizeLaws
 pub mod HopLaws
-pub mod HalfLaws
 pub mod DirectLaws
 pub mod InverseLaws
 pub mod LiftLaws
+pub mod Stages

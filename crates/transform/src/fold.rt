@@ -3,21 +3,24 @@ ghost use mathlib.Core.Path.{_≡_};
 ghost use Prim.Native.Nat.{_+_, _-_, _*_, _/_, _^_, _≤_, _<_};
 ghost use lib.ListN.{length};
 ghost use lib.IntN.{negℤ, natAbs, _-ℤ_, _*ℤ_};
-ghost use Rattle.arithmetic.specs.Lists.{at, table, Small};
-ghost use Rattle.transform.specs.Analysis.{y};
-ghost use Rattle.transform.specs.FoldLaws.{folded};
-ghost use Rattle.transform.specs.HopLaws.{windowed};
+ghost use Rattle.arithmetic.specs.Lists.{table, Small};
+ghost use Rattle.transform.specs.HopLaws.{windowed, hops};
+ghost use Rattle.tables.specs.HalfLaws.{Halves};
 
 fn weighted(w: i32, x: i16) -> i64
-    ensures { λ r. ⌜ (r ≡ w *ℤ x) × (natAbs x ≤ 2 ^ 15) ⌝ }
+    ensures { λ r. ⌜ r ≡ w *ℤ x ⌝ }
+    ensures { λ r. ⌜ natAbs x ≤ 2 ^ 15 ⌝ }
 {
     w as i64 * x as i64
 }
 
 // Sample n, windowed by entry i of a half of the joint.
 fn windowed(half: &[i32], i: usize, x: &[i16], n: usize) -> i32
-    requires { ⌜ Small (now half) (2 ^ 26) × (i < length (now half)) × (n < length (now x)) ⌝ }
-    ensures { λ r. ⌜ (r ≡ windowed (now (half .entry)) i (now (x .entry)) n) × (natAbs r ≤ 2 ^ 23) ⌝ }
+    requires { ⌜ Small (now half) (2 ^ 26) ⌝ }
+    requires { ⌜ i < length (now half) ⌝ }
+    requires { ⌜ n < length (now x) ⌝ }
+    ensures { λ r. ⌜ r ≡ windowed (now (half .entry)) i (now (x .entry)) n ⌝ }
+    ensures { λ r. ⌜ natAbs r ≤ 2 ^ 23 ⌝ }
 {
     arithmetic::rnd_shift(weighted(half[i], x[n]), 18) as i32
 }
@@ -27,24 +30,36 @@ const MIRRORED: i32 = -1;
 
 // Two places of the first hop: a sample less its mirrored one.
 fn difference(left: &[i32], x: &[i16], a: usize, b: usize) -> i32
-    requires { ⌜ Small (now left) (2 ^ 26) × (length (now left) ≤ length (now x)) × (a < length (now left)) × (b < length (now left)) ⌝ }
-    ensures { λ r. ⌜ (r ≡ windowed (now (left .entry)) a (now (x .entry)) a -ℤ windowed (now (left .entry)) b (now (x .entry)) b) × (natAbs r ≤ 2 ^ 24) ⌝ }
+    requires { ⌜ Small (now left) (2 ^ 26) ⌝ }
+    requires { ⌜ length (now left) ≤ length (now x) ⌝ }
+    requires { ⌜ a < length (now left) ⌝ }
+    requires { ⌜ b < length (now left) ⌝ }
+    ensures { λ r. ⌜ r ≡ windowed (now (left .entry)) a (now (x .entry)) a -ℤ windowed (now (left .entry)) b (now (x .entry)) b ⌝ }
+    ensures { λ r. ⌜ natAbs r ≤ 2 ^ 24 ⌝ }
 {
     windowed(left, a, x, a) + MIRRORED * windowed(left, b, x, b)
 }
 
 // Two places of the second hop, which starts at m: a sample and its mirrored one, both with the sign changed.
 fn negated_sum(right: &[i32], x: &[i16], m: usize, a: usize, b: usize) -> i32
-    requires { ⌜ Small (now right) (2 ^ 26) × (m + length (now right) ≤ length (now x)) × (a < length (now right)) × (b < length (now right)) ⌝ }
-    ensures { λ r. ⌜ (r ≡ negℤ (windowed (now (right .entry)) a (now (x .entry)) (m + a)) -ℤ windowed (now (right .entry)) b (now (x .entry)) (m + b)) × (natAbs r ≤ 2 ^ 24) ⌝ }
+    requires { ⌜ Small (now right) (2 ^ 26) ⌝ }
+    requires { ⌜ m + length (now right) ≤ length (now x) ⌝ }
+    requires { ⌜ a < length (now right) ⌝ }
+    requires { ⌜ b < length (now right) ⌝ }
+    ensures { λ r. ⌜ r ≡ negℤ (windowed (now (right .entry)) a (now (x .entry)) (m + a)) -ℤ windowed (now (right .entry)) b (now (x .entry)) (m + b) ⌝ }
+    ensures { λ r. ⌜ natAbs r ≤ 2 ^ 24 ⌝ }
 {
     -windowed(right, a, x, m + a) - windowed(right, b, x, m + b)
 }
 
 // Place j of the folded block.
 fn folded_at(left: &[i32], right: &[i32], x: &[i16], m: usize, j: usize) -> i32
-    requires { ⌜ (length (now left) ≡ m) × (length (now right) ≡ m) × (length (now x) ≡ 2 * m) × (2 * (m / 2) ≡ m) × (j < m) × Small (now left) (2 ^ 26) × Small (now right) (2 ^ 26) ⌝ }
-    ensures { λ r. ⌜ (r ≡ folded (2 * m) (y (2 * m) (at (now (left .entry))) (at (now (right .entry))) (now (x .entry))) j) × (natAbs r ≤ 2 ^ 24) ⌝ }
+    requires { ⌜ Halves m (now left) (now right) ⌝ }
+    requires { ⌜ length (now x) ≡ 2 * m ⌝ }
+    requires { ⌜ 2 * (m / 2) ≡ m ⌝ }
+    requires { ⌜ j < m ⌝ }
+    ensures { λ r. ⌜ r ≡ hops m (now (left .entry)) (now (right .entry)) (now (x .entry)) j ⌝ }
+    ensures { λ r. ⌜ natAbs r ≤ 2 ^ 24 ⌝ }
 {
     let h = m / 2;
     if j < h {
@@ -55,8 +70,10 @@ fn folded_at(left: &[i32], right: &[i32], x: &[i16], m: usize, j: usize) -> i32
 }
 
 pub fn fold(left: &[i32], right: &[i32], x: &[i16], z: &mut [i32])
-    requires { ⌜ (length (now left) ≡ length (now z)) × (length (now right) ≡ length (now z)) × (length (now x) ≡ 2 * length (now z)) × (2 * (length (now z) / 2) ≡ length (now z)) × Small (now left) (2 ^ 26) × Small (now right) (2 ^ 26) ⌝ }
-    ensures { λ _. ⌜ now (z .exit) ≡ table (length (now (z .entry))) (folded (2 * length (now (z .entry))) (y (2 * length (now (z .entry))) (at (now (left .entry))) (at (now (right .entry))) (now (x .entry)))) ⌝ }
+    requires { ⌜ Halves (length (now z)) (now left) (now right) ⌝ }
+    requires { ⌜ length (now x) ≡ 2 * length (now z) ⌝ }
+    requires { ⌜ 2 * (length (now z) / 2) ≡ length (now z) ⌝ }
+    ensures { λ _. ⌜ now (z .exit) ≡ table (length (now (z .entry))) (hops (length (now (z .entry))) (now (left .entry)) (now (right .entry)) (now (x .entry))) ⌝ }
     ensures { λ _. ⌜ Small (now (z .exit)) (2 ^ 24) ⌝ }
 {
     let m = z.len();

@@ -9,8 +9,9 @@ ghost use lib.Signed.{_≤ℤ_};
 ghost use Rattle.arithmetic.specs.Rounding.{rnd};
 ghost use Rattle.arithmetic.specs.Sums.{sum};
 ghost use Rattle.arithmetic.specs.Lists.{at, table, Small};
-ghost use Rattle.transform.specs.InverseLaws.{folds};
-ghost use Rattle.transform.specs.LiftLaws.{Lifted, lifted, liftList, baseList, raised, lowered};
+ghost use Rattle.tables.specs.LiftLists.{Lifted, liftList};
+ghost use Rattle.transform.specs.LiftLaws.{lifted, raised, lowered, plain};
+ghost use Rattle.transform.specs.Stages.{Input, Kernel, Room, Sums};
 
 // The lift of an input, 2^29, and of a number of the kernel, 2^26.
 const INPUT: i32 = 536870912;
@@ -19,7 +20,8 @@ const KERNEL: i64 = 67108864;
 
 // A sum's inputs, lifted.
 pub fn lift(x: &[i32], z: &mut [i32])
-    requires { ⌜ (length (now z) ≡ length (now x)) × Small (now x) (2 ^ 29) ⌝ }
+    requires { ⌜ length (now z) ≡ length (now x) ⌝ }
+    requires { ⌜ Small (now x) (2 ^ 29) ⌝ }
     ensures { λ _. ⌜ now (z .exit) ≡ lifted (now (x .entry)) ⌝ }
 {
     for j in 0..x.len() {
@@ -29,7 +31,8 @@ pub fn lift(x: &[i32], z: &mut [i32])
 
 // A product of numbers that are not negative: one multiplication without a sign.
 pub fn product(a: i32, b: i32) -> i64
-    requires { ⌜ (pos 0 ≤ℤ a) × (pos 0 ≤ℤ b) ⌝ }
+    requires { ⌜ pos 0 ≤ℤ a ⌝ }
+    requires { ⌜ pos 0 ≤ℤ b ⌝ }
     ensures { λ r. ⌜ r ≡ a *ℤ b ⌝ }
 {
     (a as u32 as u64 * b as u32 as u64) as i64
@@ -37,7 +40,11 @@ pub fn product(a: i32, b: i32) -> i64
 
 // Sum k of lifted inputs with the lifted kernel. The kernel is read down its columns, so that the sums of neighbours lie side by side.
 fn column(z: &[i32], rows: &[i32], k: usize) -> i64
-    requires { ⌜ (length (now rows) ≡ length (now z) * length (now z)) × (k < length (now z)) × (length (now z) ≤ 36) × Lifted (now z) (2 ^ 30) × Lifted (now rows) (2 ^ 27) ⌝ }
+    requires { ⌜ length (now rows) ≡ length (now z) * length (now z) ⌝ }
+    requires { ⌜ k < length (now z) ⌝ }
+    requires { ⌜ length (now z) ≤ 36 ⌝ }
+    requires { ⌜ Lifted (now z) (2 ^ 30) ⌝ }
+    requires { ⌜ Lifted (now rows) (2 ^ 27) ⌝ }
     ensures { λ r. ⌜ r ≡ raised (now (z .entry)) (now (rows .entry)) k ⌝ }
 {
     let m = z.len();
@@ -49,7 +56,11 @@ fn column(z: &[i32], rows: &[i32], k: usize) -> i64
 }
 
 fn columns(z: &[i32], rows: &[i32], t: &mut [i64])
-    requires { ⌜ (length (now rows) ≡ length (now z) * length (now z)) × (length (now t) ≡ length (now z)) × (length (now z) ≤ 36) × Lifted (now z) (2 ^ 30) × Lifted (now rows) (2 ^ 27) ⌝ }
+    requires { ⌜ length (now rows) ≡ length (now z) * length (now z) ⌝ }
+    requires { ⌜ length (now t) ≡ length (now z) ⌝ }
+    requires { ⌜ length (now z) ≤ 36 ⌝ }
+    requires { ⌜ Lifted (now z) (2 ^ 30) ⌝ }
+    requires { ⌜ Lifted (now rows) (2 ^ 27) ⌝ }
     ensures { λ _. ⌜ now (t .exit) ≡ table (length (now (z .entry))) (raised (now (z .entry)) (now (rows .entry))) ⌝ }
 {
     for k in 0..t.len() {
@@ -58,7 +69,8 @@ fn columns(z: &[i32], rows: &[i32], t: &mut [i64])
 }
 
 fn total(z: &[i32]) -> i64
-    requires { ⌜ (length (now z) ≤ 36) × Small (now z) (2 ^ 30) ⌝ }
+    requires { ⌜ length (now z) ≤ 36 ⌝ }
+    requires { ⌜ Small (now z) (2 ^ 30) ⌝ }
     ensures { λ r. ⌜ r ≡ sum (length (now (z .entry))) (at (now (z .entry))) ⌝ }
 {
     let mut acc: i64 = 0;
@@ -70,7 +82,8 @@ fn total(z: &[i32]) -> i64
 
 // A sum without what the lifts added to it: `all` for the kernel's lift, and for an input's lift the kernel's numbers in it, `base`.
 fn lowered(sum: i64, all: i64, base: i32) -> i64
-    requires { ⌜ (natAbs sum ≤ 36 * 2 ^ 57) × (natAbs all ≤ 36 * 2 ^ 56) ⌝ }
+    requires { ⌜ natAbs sum ≤ 36 * 2 ^ 57 ⌝ }
+    requires { ⌜ natAbs all ≤ 36 * 2 ^ 56 ⌝ }
     ensures { λ r. ⌜ r ≡ sum -ℤ all -ℤ pos (2 ^ 29) *ℤ base ⌝ }
 {
     sum - all - INPUT as i64 * base as i64
@@ -78,7 +91,11 @@ fn lowered(sum: i64, all: i64, base: i32) -> i64
 
 // Takes off what the lifts added to the sums t of the lifted inputs z. Entry k of `base` is the sum of the kernel's numbers in sum k.
 pub fn lower(z: &[i32], base: &[i32], t: &mut [i64])
-    requires { ⌜ (length (now base) ≡ length (now z)) × (length (now t) ≡ length (now z)) × (length (now z) ≤ 36) × Small (now z) (2 ^ 30) × Small (now t) (36 * 2 ^ 57) ⌝ }
+    requires { ⌜ length (now base) ≡ length (now z) ⌝ }
+    requires { ⌜ length (now t) ≡ length (now z) ⌝ }
+    requires { ⌜ length (now z) ≤ 36 ⌝ }
+    requires { ⌜ Small (now z) (2 ^ 30) ⌝ }
+    requires { ⌜ Small (now t) (36 * 2 ^ 57) ⌝ }
     ensures { λ _. ⌜ now (t .exit) ≡ table (length (now (z .entry))) (lowered (now (z .entry)) (now (base .entry)) (now (t .entry))) ⌝ }
 {
     let all = KERNEL * total(z);
@@ -89,8 +106,10 @@ pub fn lower(z: &[i32], base: &[i32], t: &mut [i64])
 
 // The sum over j of x(j) × F(k,j), for every k. The length's kernel is lent, and room for the lifted inputs.
 pub fn sums(n: usize, x: &[i32], rows: &[i32], base: &[i32], z: &mut [i32], t: &mut [i64])
-    requires { ⌜ (n / 2 ≤ 36) × (length (now x) ≡ n / 2) × Small (now x) (2 ^ 29) × (now rows ≡ liftList n) × (now base ≡ baseList n) × (length (now z) ≡ n / 2) × (length (now t) ≡ n / 2) ⌝ }
-    ensures { λ _. ⌜ (now (t .exit) ≡ table (n / 2) (folds n (now (x .entry)))) × Small (now (t .exit)) (2 ^ 62) ⌝ }
+    requires { ⌜ Input n (now x) ⌝ }
+    requires { ⌜ Kernel n (now rows) (now base) ⌝ }
+    requires { ⌜ Room (n / 2) (now z) (now t) ⌝ }
+    ensures { λ _. ⌜ Sums n (now (x .entry)) (now (t .exit)) ⌝ }
 {
     lift(x, z);
     columns(z, rows, t);
@@ -106,8 +125,12 @@ fn signed(a: i32, b: i32) -> i64
 
 // Sum k of inputs that are not lifted.
 fn plain(x: &[i32], rows: &[i32], k: usize) -> i64
-    requires { ⌜ (length (now rows) ≡ length (now x) * length (now x)) × (k < length (now x)) × (length (now x) ≤ 36) × Small (now x) (2 ^ 29) × Lifted (now rows) (2 ^ 27) ⌝ }
-    ensures { λ r. ⌜ r ≡ sum (length (now (x .entry))) (λ j. at (now (x .entry)) j *ℤ (at (now (rows .entry)) (j * length (now (x .entry)) + k) -ℤ pos (2 ^ 26))) ⌝ }
+    requires { ⌜ length (now rows) ≡ length (now x) * length (now x) ⌝ }
+    requires { ⌜ k < length (now x) ⌝ }
+    requires { ⌜ length (now x) ≤ 36 ⌝ }
+    requires { ⌜ Small (now x) (2 ^ 29) ⌝ }
+    requires { ⌜ Lifted (now rows) (2 ^ 27) ⌝ }
+    ensures { λ r. ⌜ r ≡ plain (now (x .entry)) (now (rows .entry)) k ⌝ }
 {
     let m = x.len();
     let mut acc: i64 = 0;
@@ -119,8 +142,10 @@ fn plain(x: &[i32], rows: &[i32], k: usize) -> i64
 
 // The same sums as `sums`, for the shortest length: six terms are too few for the lifts to pay.
 pub fn plain_sums(n: usize, x: &[i32], rows: &[i32], t: &mut [i64])
-    requires { ⌜ (n / 2 ≤ 36) × (length (now x) ≡ n / 2) × Small (now x) (2 ^ 29) × (now rows ≡ liftList n) × (length (now t) ≡ n / 2) ⌝ }
-    ensures { λ _. ⌜ (now (t .exit) ≡ table (n / 2) (folds n (now (x .entry)))) × Small (now (t .exit)) (2 ^ 62) ⌝ }
+    requires { ⌜ Input n (now x) ⌝ }
+    requires { ⌜ now rows ≡ liftList n ⌝ }
+    requires { ⌜ length (now t) ≡ n / 2 ⌝ }
+    ensures { λ _. ⌜ Sums n (now (x .entry)) (now (t .exit)) ⌝ }
 {
     for k in 0..t.len() {
         t[k] = plain(x, rows, k);
@@ -136,7 +161,8 @@ fn coefficient(sum: i64) -> i32
 
 // The coefficients from their sums, each divided by 2^28.
 pub fn spectrum(t: &[i64], out: &mut [i32])
-    requires { ⌜ (length (now out) ≡ length (now t)) × Small (now t) (2 ^ 58) ⌝ }
+    requires { ⌜ length (now out) ≡ length (now t) ⌝ }
+    requires { ⌜ Small (now t) (2 ^ 58) ⌝ }
     ensures { λ _. ⌜ now (out .exit) ≡ table (length (now (t .entry))) (λ k. rnd (at (now (t .entry)) k) (2 ^ 28)) ⌝ }
 {
     for k in 0..t.len() {

@@ -6,6 +6,7 @@ use native.Mathlib.Omega.{arith}
 use borrow.Author.Needs.{needs}
 use lib.IntN.{ℤ, pos, _+ℤ_}
 use lib.Pow.{pow-mono}
+use lib.Signed.{shrZ}
 use mir.Syntax.{w64}
 use mir.Val.{SFits, toZ}
 use mir.Facts.{toZ-ofZ, toZ-pos}
@@ -41,28 +42,29 @@ module _ (c : tie.Start) where
   sum-fits : SFits w64 (a +ℤ pos half)
   sum-fits = sfits-abs (a +ℤ pos half) (omega (arith, abs-add a (pos half), half-le, c .pre .2))
 
-sub-result : tie.Need-sub-result
-sub-result c = search needs
+sub-shifted : tie.Need-sub-shifted
+sub-shifted c = search needs
 
-cast-result : tie.Need-cast-result
-cast-result c = search needs
+cast-shifted : tie.Need-cast-shifted
+cast-shifted c = search needs
 
-shl-result : tie.Need-shl-result
-shl-result c = search needs
+shl-shifted : tie.Need-shl-shifted
+shl-shifted c = search needs
 
-add-result : tie.Need-add-result
-add-result c = rw (toZ-ofZ (c .fits .a), half-is c) (sum-fits c)
+add-shifted : tie.Need-add-shifted
+add-shifted c = rw (toZ-ofZ (c .fits .a), half-is c) (sum-fits c)
 
-cast-result-2 : tie.Need-cast-result-2
-cast-result-2 c = search needs
-
-shr-result : tie.Need-shr-result
-shr-result c = search needs
+shifted-requires : tie.Need-shifted-requires
+shifted-requires c κs =
+    let z = a c +ℤ pos (half c) in
+    (omega (arith, c .pre .1), rw (toZ-ofZ (c .fits .a), half-is c, toZ-ofZ (sum-fits c)) (sfits-shr z (2 ^ k c) (sum-fits c)))
 
 returns : tie.Need-returns
 returns c =
-    let z = a c +ℤ pos (half c) in
-    rw (toZ-ofZ (c .fits .a), half-is c, toZ-ofZ (sum-fits c)) (toZ-ofZ (sfits-shr z (2 ^ k c) (sum-fits c)) ∙ floor-shr z (2 ^ k c) ∙ rnd-half (a c) (half c) (double c))
+    let s = c .before in
+    let z = a s +ℤ pos (half s) in
+    let e : c .shifted .result ≡ shrZ z (2 ^ k s) = rw (toZ-ofZ (s .fits .a), half-is s, toZ-ofZ (sum-fits s)) at (c .shifted .ensures) in
+    rw e (toZ-ofZ (sfits-shr z (2 ^ k s) (sum-fits s)) ∙ floor-shr z (2 ^ k s) ∙ rnd-half (a s) (half s) (double s))
 
 pub rnd-shift-spec : {M : Type 1} → statement M
-rnd-shift-spec = tie.close (tie.spec sub-result cast-result shl-result add-result cast-result-2 shr-result returns)
+rnd-shift-spec = tie.close (tie.spec sub-shifted cast-shifted shl-shifted add-shifted shifted-requires returns)

@@ -9,7 +9,7 @@ use lib.IntN.{ℤ}
 use mir.Syntax.{w64}
 use mir.Facts.{toZ-ofZ}
 use Rattle.arithmetic.specs.Lists.{at}
-use Rattle.filter_bank.specs.Streams.{placeCode, placeTail, placeOut}
+use Rattle.stream_calls.specs.Streams.{placeCode, placeTail, placeOut}
 use Rattle.c_face.specs.Face.{entries, lengthIn}
 use Rattle.c_face.specs.FaceLaws.{put-rest, step-2, step-code, step-state, step-out}
 use borrow.Author.Needs.{needs}
@@ -74,10 +74,12 @@ returns-2 c =
     let b = c .before .before in
     let e = b .step-in-place .ensures in (
       e .0 ∙ carried b (λ n t. placeCode n t (x b) (out b)) ∙ step-code (state b) (x b) (out b) (whole b),
-      put-rest (state b) _
-          ∙ ap (λ (y : List ℤ). take 1 (state b) ++ y) (e .1 ∙ carried b (λ n t. placeTail n t (x b) (out b)))
-          ∙ step-state (state b) (x b) (out b) (whole b),
-      e .2 ∙ carried b (λ n t. placeOut n t (x b) (out b)) ∙ step-out (state b) (x b) (out b) (whole b),
+      (
+        put-rest (state b) _
+            ∙ ap (λ (y : List ℤ). take 1 (state b) ++ y) (e .1 .0 ∙ carried b (λ n t. placeTail n t (x b) (out b)))
+            ∙ step-state (state b) (x b) (out b) (whole b),
+        e .1 .1 ∙ carried b (λ n t. placeOut n t (x b) (out b)) ∙ step-out (state b) (x b) (out b) (whole b),
+      ),
     )
 
 pub dapplescree-stream-step-spec : {M : Type 1} → statement M

@@ -5,9 +5,6 @@ use borrow.Author.Needs.{needs}
 use Rattle.check_blocks.proofs.offer.Statement.{statement}
 use Rattle.check_blocks.proofs.offer.Tie as tie
 
-marks-requires : tie.Need-marks-requires
-marks-requires c κs = search needs
-
 array-share-prefix-x : tie.Need-array-share-prefix-x
 array-share-prefix-x c = search needs
 
@@ -30,7 +27,6 @@ pub offer-spec : {M : Type 1} → statement M
 offer-spec =
     tie.close
     (tie.spec
-    marks-requires
     array-share-prefix-x
     slice-aggregate-told
     array-borrow-prefix-out

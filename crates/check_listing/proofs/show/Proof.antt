@@ -1,5 +1,5 @@
 -- `show` is safe: what `round_trip` answers lies within the buffer.
-use Rattle.listing.specs.WrittenLaws.{written-part, written-fits}
+use Rattle.text.specs.BufferLaws.{written-part, written-fits}
 use borrow.Author.Needs.{needs}
 use Rattle.check_listing.proofs.show.Statement.{statement}
 use Rattle.check_listing.proofs.show.Tie as tie

@@ -1,4 +1,4 @@
--- `part` is safe: both parts lie in the array.
+-- `part` is safe: the part lies in the array.
 use mathlib.Core.Path.{sym}
 use lib.Seq.{length-take-le}
 use borrow.Author.Needs.{needs}
@@ -17,27 +17,10 @@ slice-aggregate-viewed c = sym (length-take-le _ _ (search needs))
 viewed-requires : tie.Need-viewed-requires
 viewed-requires c κs = search needs
 
-array-borrow-prefix-out : tie.Need-array-borrow-prefix-out
-array-borrow-prefix-out c = search needs
-
-slice-aggregate-overwritten : tie.Need-slice-aggregate-overwritten
-slice-aggregate-overwritten c = sym (length-take-le _ _ (search needs))
-
-overwritten-requires : tie.Need-overwritten-requires
-overwritten-requires c κs = search needs
-
 returns : tie.Need-returns
 returns c = search needs
 
 pub part-spec : {M : Type 1} → statement M
 part-spec =
     tie.close
-    (tie.spec
-    noise-requires
-    array-share-prefix-out
-    slice-aggregate-viewed
-    viewed-requires
-    array-borrow-prefix-out
-    slice-aggregate-overwritten
-    overwritten-requires
-    returns)
+    (tie.spec noise-requires array-share-prefix-out slice-aggregate-viewed viewed-requires returns)

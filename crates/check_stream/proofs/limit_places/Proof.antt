@@ -5,28 +5,25 @@ use Rattle.check_stream.proofs.limit_places.Statement.{statement}
 use Rattle.check_stream.proofs.limit_places.Tie as tie
 
 abbrev Inv-loop : tie.InvT-loop
-Inv-loop n m s₀ k₀ s k = k ≤ m
+Inv-loop n m s₀ x k₀ s k = k ≤ m
 
 abbrev μ-loop : tie.MeasureT-loop
-μ-loop n m s₀ k₀ s k = m - k
+μ-loop n m s₀ x k₀ s k = m - k
 
 fresh-requires : tie.Need-fresh-requires Inv-loop μ-loop
 fresh-requires c κs = search needs
 
-loop-holds : tie.Need-loop-holds Inv-loop μ-loop
-loop-holds c = search needs
-
 loud-requires : tie.Need-loud-requires Inv-loop μ-loop
 loud-requires c κs = search needs
+
+loop-holds : tie.Need-loop-holds Inv-loop μ-loop
+loop-holds c = search needs
 
 with-requires : tie.Need-with-requires Inv-loop μ-loop
 with-requires c κs = search needs
 
 offer-requires : tie.Need-offer-requires Inv-loop μ-loop
 offer-requires c κs = search needs
-
-loud-requires-2 : tie.Need-loud-requires-2 Inv-loop μ-loop
-loud-requires-2 c κs = search needs
 
 with-requires-2 : tie.Need-with-requires-2 Inv-loop μ-loop
 with-requires-2 c κs = search needs
@@ -53,11 +50,10 @@ limit-places-spec =
     Inv-loop
     μ-loop
     fresh-requires
-    loop-holds
     loud-requires
+    loop-holds
     with-requires
     offer-requires
-    loud-requires-2
     with-requires-2
     offer-requires-2
     add-k

@@ -15,9 +15,6 @@ abbrev μ-loop : tie.MeasureT-loop
 loop-holds : tie.Need-loop-holds Inv-loop μ-loop
 loop-holds c = search needs
 
-loudest-requires : tie.Need-loudest-requires Inv-loop μ-loop
-loudest-requires c κs = search needs
-
 mul-x : tie.Need-mul-x Inv-loop μ-loop
 mul-x c = search needs
 
@@ -43,7 +40,6 @@ loud-spec =
     Inv-loop
     μ-loop
     loop-holds
-    loudest-requires
     mul-x
     array-set-from-x
     add-k

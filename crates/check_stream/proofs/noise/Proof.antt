@@ -18,8 +18,8 @@ loop-holds c = search needs
 random-requires : tie.Need-random-requires Inv-loop μ-loop
 random-requires c κs = search needs
 
-coefficient-requires : tie.Need-coefficient-requires Inv-loop μ-loop
-coefficient-requires c κs = search needs
+offset-requires : tie.Need-offset-requires Inv-loop μ-loop
+offset-requires c κs = search needs
 
 mul-x : tie.Need-mul-x Inv-loop μ-loop
 mul-x c = search needs
@@ -47,7 +47,7 @@ noise-spec =
     μ-loop
     loop-holds
     random-requires
-    coefficient-requires
+    offset-requires
     mul-x
     array-set-from-x
     add-k

@@ -5,9 +5,6 @@ use borrow.Author.Needs.{needs}
 use Rattle.check_stream.proofs.offer_in_place.Statement.{statement}
 use Rattle.check_stream.proofs.offer_in_place.Tie as tie
 
-marks-requires : tie.Need-marks-requires
-marks-requires c κs = search needs
-
 array-share-prefix-x : tie.Need-array-share-prefix-x
 array-share-prefix-x c = search needs
 
@@ -33,7 +30,6 @@ pub offer-in-place-spec : {M : Type 1} → statement M
 offer-in-place-spec =
     tie.close
     (tie.spec
-    marks-requires
     array-share-prefix-x
     slice-aggregate-told-in-place
     array-borrow-prefix-out

@@ -6,7 +6,7 @@ use lib.ListN.{length}
 use Rattle.listing.specs.declared.verdict.Verdict.{Verdict}
 use Rattle.listing.specs.Verdicts.{verdict}
 use Rattle.listing.specs.SizeLaws.{room}
-use Rattle.listing.specs.WrittenLaws.{code-few, line-few, refused-written, taken, half-few, header-room, header-written, rows-room, rows-written}
+use Rattle.listing.specs.OutputLaws.{code-few, line-few, refused-written, taken, half-few, header-room, header-written, rows-room, rows-written}
 use Rattle.listing.proofs.round_trip.Statement.{statement}
 use Rattle.listing.proofs.round_trip.Tie as tie
 

@@ -6,11 +6,12 @@ use native.Mathlib.Omega.{arith}
 use lib.ListN.{length}
 use lib.IntN.{ℤ}
 use Rattle.arithmetic.specs.ListLaws.{part-length}
-use Rattle.recording.specs.declared.Route.{Route}
-use Rattle.recording.specs.Analysis.{coefficients, block}
-use Rattle.recording.specs.Recordings.{joined, analysis}
+use Rattle.analysis.specs.declared.Route.{Route}
+use Rattle.analysis.specs.Analysis.{coefficients}
+use Rattle.recording.specs.Recordings.{block, joined, analysis}
 use Rattle.recording.specs.JoinLaws.{Joined, joined-none, joined-more, joined-all}
-use Rattle.recording.specs.RecordingLaws.{offered-tabled, coefficients-length, Lies, lies, block-is}
+use Rattle.analysis.specs.AnalysisLaws.{offered-tabled, coefficients-length}
+use Rattle.recording.specs.RecordingLaws.{Lies, lies, block-is}
 use Rattle.recording.proofs.analyse.Statement.{statement}
 use Rattle.recording.proofs.analyse.Tie as tie
 

@@ -10,20 +10,20 @@ use Rattle.cosine.specs.Kernels.{rising, falling}
 use Rattle.stream.specs.declared.Stream.{Stream}
 use Rattle.stream.specs.Synthesis.{fresh, newTail}
 use Rattle.stream.specs.Synthesis as S
-use Rattle.stream.specs.Steps.{next, hop}
-use Rattle.stream.specs.NextLaws.{Fine}
-use Rattle.recording.specs.Recordings.{joined, part, streamAfter, synthesis}
+use Rattle.stream.specs.Steps.{next, hop, streamAfter, returned}
+use Rattle.stream.specs.NextLaws.{Fine, stream-next, returned-long}
+use Rattle.recording.specs.Recordings.{joined, part, synthesis}
 use Rattle.recording.specs.JoinLaws.{Joined, joined-none, joined-more, joined-all}
-use Rattle.recording.specs.RecordingLaws.{Lies, lies, part-is, hop-length, stream-next, stream-fine}
+use Rattle.recording.specs.RecordingLaws.{Lies, lies, part-is, stream-fine}
 use Rattle.recording.proofs.synthesise.Statement.{statement}
 use Rattle.recording.proofs.synthesise.Tie as tie
 
 -- hop b
 abbrev given : ℕ → List ℤ → ℕ → List ℤ
-given n x b = hop (streamAfter n x b) (part n x b)
+given n x = returned n (part n x)
 
 abbrev Inv-loop : tie.InvT-loop
-Inv-loop n blocks x out₀ m tail₀ h₀ out tail b = (b ≤ blocks) × (tail ≡ streamAfter n x b .tail) × Joined (given n x) (n / 2) b out out₀
+Inv-loop n blocks x out₀ m tail₀ h₀ out tail b = (b ≤ blocks) × (tail ≡ streamAfter n (part n x) b .tail) × Joined (given n x) (n / 2) b out out₀
 
 abbrev μ-loop : tie.MeasureT-loop
 μ-loop n blocks x out₀ m tail₀ h₀ out tail b = blocks - b
@@ -63,7 +63,7 @@ part-advance-tail-end : tie.Need-part-advance-tail-end Inv-loop μ-loop
 part-advance-tail-end c = omega (arith, placed c, same c)
 
 -- the stream after b steps, and its tail, as the code has it
-fine : (c : tie.In-loop Inv-loop μ-loop) → let a = c .before .before .args in Fine (a .n) (streamAfter (a .n) (a .x .now) (c .before .loop .h))
+fine : (c : tie.In-loop Inv-loop μ-loop) → let a = c .before .before .args in Fine (a .n) (streamAfter (a .n) (part (a .n) (a .x .now)) (c .before .loop .h))
 fine c =
     let a = c .before .before .args in
     let q = c .before .before .pre in
@@ -114,7 +114,7 @@ loop-less : tie.Need-loop-less Inv-loop μ-loop
 loop-less c = omega arith
 
 loop-again : tie.Need-loop-again Inv-loop μ-loop
-unfolding next hop
+unfolding next hop returned
 loop-again c =
     let i = c .before .before .before .before .before .before in
     let l = i .before in
@@ -123,15 +123,15 @@ loop-again c =
     let at = b * (a .n / 2) in
     let f : at + a .n / 2 - at ≡ a .n / 2 = omega arith in
     let k = part-is (a .n) b (a .x .now) f in
-    let s = streamAfter (a .n) (a .x .now) b in
+    let s = streamAfter (a .n) (part (a .n) (a .x .now)) b in
     let t = l .loop .inv .1 in
     let n = sym (fine i .n-is) in (
       omega arith,
       c .before .before .advance-tail .ensures .0
           ∙ ap₂ (newTail (a .n) (rising (a .n)) (falling (a .n))) t k
           ∙ ap (λ (N : ℕ). newTail N (rising N) (falling N) (s .tail) (part (a .n) (a .x .now) b)) n
-          ∙ ap (λ (s : Stream). s .tail) (sym (stream-next (a .n) (a .x .now) b)),
-      joined-more (given (a .n) (a .x .now)) (a .n / 2) (hop-length (a .n) (a .x .now)) b (at + a .n / 2 - at) (l .loop .out) (a .out .now) (c .before .before .advance-tail .last .1 .1 .1 .0) (l .loop .inv .2)
+          ∙ ap (λ (s : Stream). s .tail) (sym (stream-next (a .n) (part (a .n) (a .x .now)) b)),
+      joined-more (given (a .n) (a .x .now)) (a .n / 2) (returned-long (a .n) (part (a .n) (a .x .now))) b (at + a .n / 2 - at) (l .loop .out) (a .out .now) (c .before .before .advance-tail .last .1 .1 .1 .0) (l .loop .inv .2)
           (placed i .ends) f
           (c .before .before .advance-tail .ensures .1
           ∙ ap₂ (S.hop (a .n) (rising (a .n)) (falling (a .n))) t k
@@ -148,7 +148,7 @@ returns c =
     let q = c .before .before .pre in
     let g = given (a .n) (a .x .now) in
     let e : c .before .loop .h ≡ a .blocks = omega arith in
-    joined-all g (a .n / 2) (hop-length (a .n) (a .x .now)) (c .before .loop .h) (c .before .loop .out) (a .out .now) (c .before .loop .inv .2)
+    joined-all g (a .n / 2) (returned-long (a .n) (part (a .n) (a .x .now))) (c .before .loop .h) (c .before .loop .out) (a .out .now) (c .before .loop .inv .2)
     (q .4 ∙ ap (λ (j : ℕ). j * (a .n / 2)) (sym e))
     ∙ ap (λ (j : ℕ). joined j g) e
 

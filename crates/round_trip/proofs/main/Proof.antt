@@ -1,6 +1,6 @@
 -- `main` is safe: what `round_trip` answers lies within the buffer, since its first bytes are the listing, of that length.
 use borrow.Author.Needs.{needs}
-use Rattle.listing.specs.WrittenLaws.{written-part, written-fits}
+use Rattle.text.specs.BufferLaws.{written-part, written-fits}
 use Rattle.round_trip.proofs.main.Statement.{statement}
 use Rattle.round_trip.proofs.main.Tie as tie
 

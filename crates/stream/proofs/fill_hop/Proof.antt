@@ -3,7 +3,6 @@ use mathlib.Core.Path.{_≡_, _∙_}
 use mathlib.Core.List.{List}
 use Prim.Native.Nat.{ℕ, _-_, _*_, _/_, _^_, _≤_}
 use native.Mathlib.Omega.{arith}
-use lib.ListN.{length}
 use lib.IntN.{ℤ, _+ℤ_}
 use mir.Syntax.{w16, w64}
 use mir.Facts.{toZ-ofZ}
@@ -30,29 +29,24 @@ mul-sample : tie.Need-mul-sample Inv-loop μ-loop
 mul-sample c = omega arith
 
 shared-slice-copy-out-sample : tie.Need-shared-slice-copy-out-sample Inv-loop μ-loop
-shared-slice-copy-out-sample c = omega (arith, c .before .before .pre .3)
+shared-slice-copy-out-sample c = omega (arith, c .before .before .pre .1 .1 .0 .long)
 
 mul-sample-2 : tie.Need-mul-sample-2 Inv-loop μ-loop
 mul-sample-2 c = omega arith
 
 shared-slice-copy-out-sample-2 : tie.Need-shared-slice-copy-out-sample-2 Inv-loop μ-loop
-shared-slice-copy-out-sample-2 c = omega (arith, c .before .before .before .pre .5)
+shared-slice-copy-out-sample-2 c = omega (arith, c .before .before .before .pre .1 .1 .1 .0 .long)
 
 sample-requires : tie.Need-sample-requires Inv-loop μ-loop
 sample-requires c κs =
     let s = c .before .before .before .before in
-    let i = c .before .before .before .loop .i in (
-      s .pre .0,
-      s .pre .1,
-      rw (toZ-ofZ {w = w64} (record { sfits = c .before .sample-arg .given })) (s .pre .4 .within i (omega arith)),
-      rw (toZ-ofZ {w = w64} (record { sfits = c .sample-arg2 .given })) (s .pre .6 .within i (omega arith)),
-    )
+    let i = c .before .before .before .loop .i in (s .pre .0, (s .pre .1 .0, (rw (toZ-ofZ {w = w64} (record { sfits = c .before .sample-arg .given })) (s .pre .1 .1 .0 .bounded .within i (omega arith)), rw (toZ-ofZ {w = w64} (record { sfits = c .sample-arg2 .given })) (s .pre .1 .1 .1 .0 .bounded .within i (omega arith)))))
 
 mul-t15 : tie.Need-mul-t15 Inv-loop μ-loop
 mul-t15 c = omega arith
 
 slice-set-from-out : tie.Need-slice-set-from-out Inv-loop μ-loop
-slice-set-from-out c = omega (arith, c .before .before .before .before .loop .inv .1 .room, c .before .before .before .before .before .pre .2)
+slice-set-from-out c = omega (arith, c .before .before .before .before .loop .inv .1 .room, c .before .before .before .before .before .pre .1 .1 .1 .1)
 
 add-i : tie.Need-add-i Inv-loop μ-loop
 add-i c = omega arith
@@ -66,7 +60,7 @@ loop-again c =
     let a = l .before .args in (
       omega arith,
       filled-more (value (a .n) (a .tail .now) (a .v .now)) (l .loop .i) (l .loop .out) (a .out .now) _ (l .loop .inv .1)
-          (omega (arith, l .loop .inv .1 .room, l .before .pre .2))
+          (omega (arith, l .loop .inv .1 .room, l .before .pre .1 .1 .1 .1))
           (toZ-ofZ {w = w16} {z = c .sample .result} (record { sfits = c .sample .ok }) ∙ c .sample .ensures
           ∙ rw (toZ-ofZ {w = w64} (record { sfits = c .before .before .sample-arg .given }), toZ-ofZ {w = w64} (record { sfits = c .before .sample-arg2 .given }))),
     )
@@ -79,7 +73,7 @@ returns c =
     let s = c .before .before in
     let a = s .args in
     let e : c .before .loop .i ≡ a .n / 2 = omega arith in
-    filled-all (value (a .n) (a .tail .now) (a .v .now)) (a .n / 2) (c .before .loop .out) (a .out .now) (rw e at (c .before .loop .inv .1)) (s .pre .2)
+    filled-all (value (a .n) (a .tail .now) (a .v .now)) (a .n / 2) (c .before .loop .out) (a .out .now) (rw e at (c .before .loop .inv .1)) (s .pre .1 .1 .1 .1)
 
 pub fill-hop-spec : {M : Type 1} → statement M
 fill-hop-spec =

@@ -15,7 +15,7 @@ use Rattle.stream.proofs.sample.Tie as tie
 -- the sum, as the machine has it
 module _ (c : tie.Start) where
   sum-fits : SFits w64 (c .args .tail +ℤ c .args .v)
-  sum-fits = sfits-abs (c .args .tail +ℤ c .args .v) (omega (arith, abs-add (c .args .tail) (c .args .v), c .pre .1, c .pre .2, c .pre .3))
+  sum-fits = sfits-abs (c .args .tail +ℤ c .args .v) (omega (arith, abs-add (c .args .tail) (c .args .v), c .pre .1 .0, c .pre .1 .1 .0, c .pre .1 .1 .1))
 
   sum-is : toZ w64 (ofZ w64 (toZ w64 (ofZ w64 (c .args .tail)) +ℤ toZ w64 (ofZ w64 (c .args .v)))) ≡ c .args .tail +ℤ c .args .v
   sum-is = rw (toZ-ofZ (c .fits .tail), toZ-ofZ (c .fits .v)) (toZ-ofZ sum-fits)

@@ -5,7 +5,6 @@ use native.Mathlib.Omega.{arith}
 use lib.ListN.{length}
 use lib.IntN.{natAbs}
 use Rattle.arithmetic.specs.Lists.{at}
-use Rattle.cosine.specs.LengthLaws.{Length, length-of}
 use Rattle.stream.specs.StepLaws.{Bounded, values-long, values-bounded, hop-step, tail-step}
 use borrow.Author.Needs.{needs}
 use Rattle.stream.proofs.settle.Statement.{statement}
@@ -15,27 +14,24 @@ module _ (s : tie.Start) where
   abbrev n : ℕ
   n = s .args .n
 
-  len : Length n
-  len = length-of n (s .pre .0)
-
   small : (k : ℕ) → k < n / 2 → natAbs (at (s .args .x .now) k) ≤ 2 ^ 29
-  small k p = s .pre .2 .small k (omega (arith, s .pre .1))
+  small k p = s .pre .0 .input .small .small k (omega (arith, s .pre .0 .input .long))
 
   long : length (s .args .v .now) ≡ n
-  long = values-long n (s .pre .0) (s .args .x .now) (s .args .v .now) small (s .pre .3)
+  long = values-long n (s .pre .0 .part) (s .args .x .now) (s .args .v .now) small (s .pre .1)
 
   bounded : Bounded (n / 2) (s .args .v .now)
-  bounded = values-bounded n (s .pre .0) (s .args .x .now) (s .args .v .now) small (s .pre .3)
+  bounded = values-bounded n (s .pre .0 .part) (s .args .x .now) (s .args .v .now) small (s .pre .1)
 
 fill-hop-requires : tie.Need-fill-hop-requires
 fill-hop-requires c κs =
     let s = c .before .before in
-    (len s .some, len s .most, s .pre .6, omega (arith, s .pre .4, len s .most), s .pre .5, omega (arith, long s), bounded s)
+    (s .pre .0 .part .some, (s .pre .0 .most, (record { long = omega (arith, s .pre .0 .stored, s .pre .0 .most); bounded = s .pre .0 .bounded }, (record { long = omega (arith, long s); bounded = bounded s }, s .pre .0 .room))))
 
 shift-requires : tie.Need-shift-requires
 shift-requires c κs =
     let s = c .before .before .before .before .before in
-    (omega (arith, len s .most), omega (arith, long s), omega (arith, s .pre .4, len s .most))
+    (omega (arith, s .pre .0 .most), (omega (arith, long s), omega (arith, s .pre .0 .stored, s .pre .0 .most)))
 
 same-length : tie.Need-same-length
 same-length c = search needs
@@ -47,8 +43,8 @@ returns : tie.Need-returns
 returns c =
     let s = c .before .before .before .before .before .before .before in
     let f = c .before .before .before .before in (
-      tail-step (n s) (s .pre .0) (s .args .x .now) (s .args .v .now) (small s) (s .pre .3) (s .args .tail .now) _ (c .before .shift .ensures),
-      hop-step (n s) (s .pre .0) (s .args .x .now) (s .args .v .now) (small s) (s .pre .3) (s .args .tail .now) _ (f .fill-hop .ensures),
+      tail-step (n s) (s .pre .0 .part) (s .args .x .now) (s .args .v .now) (small s) (s .pre .1) (s .args .tail .now) _ (c .before .shift .ensures),
+      hop-step (n s) (s .pre .0 .part) (s .args .x .now) (s .args .v .now) (small s) (s .pre .1) (s .args .tail .now) _ (f .fill-hop .ensures),
     )
 
 pub settle-spec : {M : Type 1} → statement M

@@ -31,13 +31,13 @@ mul-tail : tie.Need-mul-tail Inv-loop μ-loop
 mul-tail c = omega arith
 
 shared-slice-copy-out-tail : tie.Need-shared-slice-copy-out-tail Inv-loop μ-loop
-shared-slice-copy-out-tail c = omega (arith, c .before .before .pre .1)
+shared-slice-copy-out-tail c = omega (arith, c .before .before .pre .1 .0)
 
 mul-t10 : tie.Need-mul-t10 Inv-loop μ-loop
 mul-t10 c = omega arith
 
 slice-set-from-tail : tie.Need-slice-set-from-tail Inv-loop μ-loop
-slice-set-from-tail c = omega (arith, c .before .before .loop .inv .1 .room, c .before .before .before .pre .2)
+slice-set-from-tail c = omega (arith, c .before .before .loop .inv .1 .room, c .before .before .before .pre .1 .1)
 
 add-i : tie.Need-add-i Inv-loop μ-loop
 add-i c = omega arith
@@ -51,7 +51,7 @@ loop-again c =
     let a = l .before .args in (
       omega arith,
       filled-more (second (a .v .now) (a .m)) (l .loop .i) (l .loop .tail) (a .tail .now) _ (l .loop .inv .1)
-          (omega (arith, l .loop .inv .1 .room, l .before .pre .2))
+          (omega (arith, l .loop .inv .1 .room, l .before .pre .1 .1))
           (toZ-ofZ {w = w64} (record { sfits = c .tail .given })),
     )
 

@@ -7,10 +7,9 @@ use lib.ListN.{length}
 use lib.IntN.{ℤ, pos}
 use Rattle.arithmetic.specs.Lists.{at, Small}
 use Rattle.arithmetic.specs.ListLaws.{length-table, getD-table}
-use Rattle.cosine.specs.LengthLaws.{length-of}
 use Rattle.transform.specs.Analysis.{y}
 use Rattle.transform.specs.FoldLaws.{folded}
-use Rattle.transform.specs.HalfLaws.{riseList, fallList}
+use Rattle.tables.specs.HalfLaws.{riseList, fallList}
 use Rattle.transform.specs.InverseLaws.{folds}
 use Rattle.transform.specs.LiftLaws.{folds-abs}
 use Rattle.transform.specs.DirectLaws.{direct-step}
@@ -29,10 +28,10 @@ module _ (s : tie.Start) where
   t = s .args .t .now
 
   sums-length : length t ≡ n / 2
-  sums-length = ap length (s .pre .3) ∙ length-table (folds n z) (n / 2)
+  sums-length = ap length (s .pre .1 .0 .are) ∙ length-table (folds n z) (n / 2)
 
   inputs-length : length z ≡ n / 2
-  inputs-length = ap length (s .pre .1) ∙ length-table (folded n (y n (at (riseList n)) (at (fallList n)) (s .args .x .now))) (n / 2)
+  inputs-length = ap length (s .pre .0 .is) ∙ length-table (folded n (y n (at (riseList n)) (at (fallList n)) (s .args .x .now))) (n / 2)
 
   -- 36 products of 2^50
   sums-small : Small t (2 ^ 58)
@@ -40,12 +39,12 @@ module _ (s : tie.Start) where
       record {
         small = λ k p.
             let q : k < n / 2 = omega (arith, sums-length) in
-            let e : at t k ≡ folds n z k = ap (λ (l : List ℤ). at l k) (s .pre .3) ∙ getD-table (folds n z) (pos 0) (n / 2) k q in
-            rw e (omega (arith, folds-abs n z (2 ^ 24) inputs-length (s .pre .2) k, length-of n (s .pre .0) .most));
+            let e : at t k ≡ folds n z k = ap (λ (l : List ℤ). at l k) (s .pre .1 .0 .are) ∙ getD-table (folds n z) (pos 0) (n / 2) k q in
+            rw e (omega (arith, folds-abs n z (2 ^ 24) inputs-length (s .pre .0 .small) k, s .pre .0 .whole .most));
       }
 
 spectrum-requires : tie.Need-spectrum-requires
-spectrum-requires c κs = let s = c .before in (s .pre .4 ∙ sym (sums-length s), sums-small s)
+spectrum-requires c κs = let s = c .before in (s .pre .1 .1 ∙ sym (sums-length s), sums-small s)
 
 same-length : tie.Need-same-length
 same-length c = search needs
@@ -53,7 +52,7 @@ same-length c = search needs
 returns : tie.Need-returns
 returns c =
     let s = c .before .before .before in
-    direct-step (n s) (s .pre .0) (s .args .x .now) (length (t s)) (z s) (t s) _ (sums-length s) (s .pre .1) (s .pre .3) (c .before .spectrum .ensures)
+    direct-step (n s) (s .pre .0 .whole) (s .args .x .now) (length (t s)) (z s) (t s) _ (sums-length s) (s .pre .0 .is) (s .pre .1 .0 .are) (c .before .spectrum .ensures)
 
 pub direct-block-spec : {M : Type 1} → statement M
 direct-block-spec = tie.close (tie.spec spectrum-requires same-length returns)

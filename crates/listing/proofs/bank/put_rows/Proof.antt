@@ -11,29 +11,31 @@ use lib.IntN.{ℤ}
 use Rattle.cosine.specs.LengthLaws.{length-of}
 use Rattle.stream.specs.declared.Stream.{Stream}
 use Rattle.stream.specs.Synthesis.{fresh}
-use Rattle.listing.specs.Lines.{nextLine, lineStart}
+use Rattle.stream.specs.Steps.{streamAfter, returned}
+use Rattle.stream.specs.NextLaws.{returned-long}
+use Rattle.text.specs.Lines.{nextLine, lineStart}
+use Rattle.text.specs.Buffers.{Put}
+use Rattle.text.specs.BufferLaws.{put-none, put-then, put-length}
 use Rattle.listing.specs.Verdicts.{hopsOf}
 use Rattle.listing.specs.VerdictLaws.{Taken}
-use Rattle.listing.specs.HopLaws.{hops-start, hops-few, hops-counted}
-use Rattle.listing.specs.Print.{Put, row}
-use Rattle.listing.specs.PrintLaws.{put-none, put-then, put-length}
-use Rattle.listing.specs.Listing.{recording, streamAt, returned, rows}
-use Rattle.listing.specs.BankLaws.{returned-long}
-use Rattle.listing.specs.SizeLaws.{taken-hops, row-room}
+use Rattle.listing.specs.HopLaws.{hops-start, hops-few}
+use Rattle.listing.specs.Print.{row}
+use Rattle.listing.specs.Listing.{recording, analysed, rows}
+use Rattle.listing.specs.SizeLaws.{row-room}
 use Rattle.listing.specs.BlockLaws.{step-n, step-tabled, step-bounded, step-hops, step-next, step-returned}
 use Rattle.listing.proofs.bank.put_rows.Statement.{statement}
 use Rattle.listing.proofs.bank.put_rows.Tie as tie
 
--- the text's recording
-abbrev x : List ℕ → List ℤ
-x text = recording (hopsOf text)
+-- the coefficients that the steps bring
+abbrev x : ℕ → List ℕ → ℕ → List ℤ
+x N text = analysed N (recording (hopsOf text))
 
 record Turning (text : List ℕ) (N H : ℕ) (out₀ : List ℕ) (from : ℕ) (out : List ℕ) (hop : List ℤ) (place : ℕ) (s : Stream) (at k : ℕ) : Type 0 where
   few : k ≤ H - 2
   long : length hop ≡ 36
   here : place ≡ lineStart text (suc k)
-  stream : s ≡ streamAt N (x text) (suc k)
-  put : Put (rows (returned N (x text)) k) out₀ from out at
+  stream : s ≡ streamAfter N (x N text) (suc k)
+  put : Put (rows (returned N (x N text)) k) out₀ from out at
 
 put-all : (f : ℕ → List ℤ) {i j a b : ℕ} {out after : List ℕ} → i ≡ j → Put (rows f i) out a after b → Put (rows f j) out a after b
 put-all f e p = rw e at p
@@ -51,12 +53,9 @@ module _ {text : List ℕ} {N H : ℕ} (K : Taken text N H) (three : 3 ≤ H) wh
   unfolding lineStart
   first-line = refl
 
-  first-stream : fresh N ≡ streamAt N (x text) 0
-  unfolding streamAt
+  first-stream : fresh N ≡ streamAfter N (x N text) 0
+  unfolding streamAfter
   first-stream = refl
-
-  hop-of : (b : ℕ) → suc b < H → length (returned N (x text) b) ≡ N / 2
-  hop-of b p = returned-long N (K .length-tabled) (hopsOf text) (taken-hops K) b (omega (arith, hops-counted K))
 
   -- a turn: the step of block k + 1, and the row of the hop that it returns
   module _ {out₀ out : List ℕ} {from place at k : ℕ} {hop : List ℤ} {s : Stream} (T : Turning text N H out₀ from out hop place s at k) (more : k < H - 2) where
@@ -73,12 +72,12 @@ module _ {text : List ℕ} {N H : ℕ} (K : Taken text N H) (three : 3 ≤ H) wh
     block : suc (suc k) < H
     block = omega arith
 
-    turning-more : (k′ at′ place′ : ℕ) (s′ : Stream) (ys : List ℤ) (out′ : List ℕ) → k′ ≡ k + 1 → place′ ≡ lineStart text (suc (suc k)) → s′ ≡ streamAt N (x text) (suc (suc k)) →
-        ys ≡ returned N (x text) (suc k) → Put (row (k + 1) (take (N / 2) (ys ++ drop (N / 2) hop))) out at out′ at′ →
+    turning-more : (k′ at′ place′ : ℕ) (s′ : Stream) (ys : List ℤ) (out′ : List ℕ) → k′ ≡ k + 1 → place′ ≡ lineStart text (suc (suc k)) → s′ ≡ streamAfter N (x N text) (suc (suc k)) →
+        ys ≡ returned N (x N text) (suc k) → Put (row (k + 1) (take (N / 2) (ys ++ drop (N / 2) hop))) out at out′ at′ →
         Turning text N H out₀ from out′ (ys ++ drop (N / 2) hop) place′ s′ at′ k′
     unfolding rows
     turning-more k′ at′ place′ s′ ys out′ e here stream is put =
-        let l : length ys ≡ N / 2 = ap length is ∙ hop-of (suc k) block in
+        let l : length ys ≡ N / 2 = ap length is ∙ returned-long N (x N text) (suc k) in
         let f : k′ ≡ suc k = omega arith in
         let q = rw (take-at ys (drop (N / 2) hop) (N / 2) l, is, add-one k) at put in
         rw f (record {
@@ -106,7 +105,7 @@ module _ (c : tie.After-hop Inv-loop μ-loop) where
   two : 1 < start .args .hops
   two = omega (arith, start .pre .1)
 
-  made : c .before .fresh .result ≡ streamAt (start .args .n) (x (start .args .input .now)) 0
+  made : c .before .fresh .result ≡ streamAfter (start .args .n) (x (start .args .n) (start .args .input .now)) 0
   made = c .before .fresh .ensures ∙ first-stream K (start .pre .1)
 
   here : c .before .before .next-line .result ≡ lineStart (start .args .input .now) 1
@@ -149,14 +148,14 @@ module _ (c : tie.After-step2 Inv-loop μ-loop) where
   placed : c .before .before .next-line2 .result ≡ lineStart (begin l .args .input .now) (suc b)
   placed = next-place (Kt l) (three l) (inv l) (turn l) (c .before .before .next-line2 .result) (c .before .before .next-line2 .ensures)
 
-  stepped : c .step2 .result ≡ streamAt (begin l .args .n) (x (begin l .args .input .now)) (suc b)
+  stepped : c .step2 .result ≡ streamAfter (begin l .args .n) (x (begin l .args .n) (begin l .args .input .now)) (suc b)
   stepped = c .step2 .ensures .0 ∙ step-next (Kt l) b (block (Kt l) (three l) (inv l) (turn l)) (l .before .loop .s) (c .before .before .next-line2 .result) (inv l .stream) placed
 
-  ys-is : ys ≡ returned (begin l .args .n) (x (begin l .args .input .now)) b
+  ys-is : ys ≡ returned (begin l .args .n) (x (begin l .args .n) (begin l .args .input .now)) b
   ys-is = c .step2 .ensures .1 ∙ step-returned (Kt l) b (block (Kt l) (three l) (inv l) (turn l)) (l .before .loop .s) (c .before .before .next-line2 .result) (inv l .stream) placed
 
   ys-long : length ys ≡ m
-  ys-long = ap length ys-is ∙ hop-of (Kt l) (three l) b (block (Kt l) (three l) (inv l) (turn l))
+  ys-long = ap length ys-is ∙ returned-long (begin l .args .n) (x (begin l .args .n) (begin l .args .input .now)) b
 
   row-long : length (take m (ys ++ drop m (l .before .loop .hop))) ≡ m
   row-long = ap length (take-at ys (drop m (l .before .loop .hop)) m ys-long) ∙ ys-long
@@ -199,7 +198,7 @@ loop-holds c =
     let is = c .before .step .ensures .1 ∙ step-returned (K h) 0 (two h) s place (made h) (here h) in
     record {
       few = omega arith;
-      long = hop-long (start h .args .n / 2) (half (K h) (start h .pre .1)) ys (h .before .before .before .hop-room .result) (ap length is ∙ hop-of (K h) (start h .pre .1) 0 (two h)) (h .before .before .before .hop-room .ensures);
+      long = hop-long (start h .args .n / 2) (half (K h) (start h .pre .1)) ys (h .before .before .before .hop-room .result) (ap length is ∙ returned-long _ _ 0) (h .before .before .before .hop-room .ensures);
       here = here h;
       stream = c .before .step .ensures .0 ∙ step-next (K h) 0 (two h) s place (made h) (here h);
       put = put-none;
@@ -265,7 +264,7 @@ returns : tie.Need-returns Inv-loop μ-loop
 returns c =
     let s = c .before .before .before .before .before .before .before .before .before .before in
     let e : c .before .loop .k ≡ s .args .hops - 2 = omega (arith, c .before .loop .inv .few, c .loop-test .left) in
-    put-all (returned (s .args .n) (x (s .args .input .now))) e (c .before .loop .inv .put)
+    put-all (returned (s .args .n) (x (s .args .n) (s .args .input .now))) e (c .before .loop .inv .put)
 
 pub put-rows-spec : {M : Type 1} → statement M
 put-rows-spec =

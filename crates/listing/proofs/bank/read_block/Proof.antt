@@ -1,13 +1,14 @@
 -- `read_block` meets its contract: the first hop into the first half, and the hop behind it into the second.
 use mathlib.Core.Path.{_≡_, refl, sym, ap, _∙_}
 use mathlib.Core.List.{List, _++_}
-use Prim.Native.Nat.{ℕ, _+_, _-_}
+use Prim.Native.Nat.{ℕ, _-_}
 use native.Mathlib.Omega.{arith}
 use borrow.Author.Needs.{needs}
 use lib.ListN.{length, take, drop, length-drop}
 use lib.Seq.{length-take-le}
 use lib.IntN.{ℤ}
-use Rattle.listing.specs.Lines.{lineAt, nextLine, samples}
+use Rattle.text.specs.Lines.{lineAt, nextLine}
+use Rattle.listing.specs.Hops.{samples}
 use Rattle.listing.specs.HopLaws.{hop-length}
 use Rattle.listing.specs.BlockLaws.{blockAt, behind-long, both-read, hop-moved}
 use Rattle.listing.proofs.bank.read_block.Statement.{statement}

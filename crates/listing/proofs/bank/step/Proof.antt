@@ -9,8 +9,8 @@ use lib.Seq.{length-take-le, take-at}
 use lib.IntN.{ℤ}
 use Rattle.cosine.specs.LengthLaws.{length-of, part-of}
 use Rattle.stream.specs.Steps.{next, hop}
-use Rattle.recording.specs.declared.Route.the-variants.{Direct}
-use Rattle.recording.specs.Analysis.{spectrum, coefficients}
+use Rattle.analysis.specs.declared.Route.the-variants.{Direct}
+use Rattle.analysis.specs.Analysis.{spectrum, coefficients}
 use Rattle.listing.specs.BankLaws.{Block, coefficients-long, coefficients-small}
 use Rattle.listing.specs.BlockLaws.{blockAt, block-fine}
 use Rattle.listing.proofs.bank.step.Statement.{statement}
@@ -70,7 +70,7 @@ module _ (c : tie.After-read-block) where
   lent-long = ap length read-front ∙ read-long
 
 -- its coefficients, in front of theirs
-module _ (c : tie.After-analyse-direct) where
+module _ (c : tie.After-analyse) where
   abbrev before : tie.After-read-block
   before = c .before .before .before .before
 
@@ -78,14 +78,14 @@ module _ (c : tie.After-analyse-direct) where
   at-start = start (rooms before)
 
   abbrev x : List ℤ
-  x = c .analyse-direct .last .1 .1 .0
+  x = c .analyse .last .1 .1 .0
 
   abbrev beyond : List ℤ
   beyond = drop (n at-start / 2) (rooms before .spectrum-room .result)
 
   x-is : x ≡ coefficients Direct (n at-start) (samples at-start)
   unfolding coefficients spectrum
-  x-is = c .analyse-direct .ensures ∙ ap (λ (l : List ℤ). coefficients Direct (n at-start) l) (read-front before ∙ before .read-block .ensures)
+  x-is = c .analyse .ensures ∙ ap (λ (l : List ℤ). coefficients Direct (n at-start) l) (read-front before ∙ before .read-block .ensures)
 
   x-long : length x ≡ n at-start / 2
   x-long = ap length x-is ∙ coefficients-long (n at-start) (at-start .pre .0) (samples at-start) (fine at-start)
@@ -114,17 +114,17 @@ read-block-requires c κs = let s = start (c .before) in (s .pre .2, block-long 
 array-share-prefix-block : tie.Need-array-share-prefix-block
 array-share-prefix-block c = let r = c .before in omega (arith, length-append (read r) (room r), read-long r)
 
-slice-aggregate-analyse-direct : tie.Need-slice-aggregate-analyse-direct
-slice-aggregate-analyse-direct c = sym (lent-long (c .before .before))
+slice-aggregate-analyse : tie.Need-slice-aggregate-analyse
+slice-aggregate-analyse c = sym (lent-long (c .before .before))
 
 array-borrow-prefix-x : tie.Need-array-borrow-prefix-x
 array-borrow-prefix-x c = spectrum≤ (rooms (c .before .before))
 
-slice-aggregate-analyse-direct-2 : tie.Need-slice-aggregate-analyse-direct-2
-slice-aggregate-analyse-direct-2 c = sym (spectrum-long (rooms (c .before .before .before)))
+slice-aggregate-analyse-2 : tie.Need-slice-aggregate-analyse-2
+slice-aggregate-analyse-2 c = sym (spectrum-long (rooms (c .before .before .before)))
 
-analyse-direct-requires : tie.Need-analyse-direct-requires
-analyse-direct-requires c κs =
+analyse-requires : tie.Need-analyse-requires
+analyse-requires c κs =
     let r = c .before .before .before in
     (start (rooms r) .pre .0, lent-long r, spectrum-long (rooms r))
 
@@ -162,10 +162,10 @@ step-spec =
     slice-aggregate-read-block
     read-block-requires
     array-share-prefix-block
-    slice-aggregate-analyse-direct
+    slice-aggregate-analyse
     array-borrow-prefix-x
-    slice-aggregate-analyse-direct-2
-    analyse-direct-requires
+    slice-aggregate-analyse-2
+    analyse-requires
     array-share-prefix-x
     slice-aggregate-advance
     advance-requires

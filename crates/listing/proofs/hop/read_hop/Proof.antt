@@ -4,9 +4,10 @@ use Prim.Native.Nat.{_≤_}
 use native.Mathlib.Omega.{arith}
 use borrow.Author.Needs.{needs}
 use lib.ListN.{length}
-use Rattle.listing.specs.Bytes.{lineFeed}
-use Rattle.listing.specs.Lines.{lineAt, samples}
-use Rattle.listing.specs.LineLaws.{part, end-most, next-is, at-is}
+use Rattle.text.specs.Bytes.{lineFeed}
+use Rattle.text.specs.Lines.{lineAt}
+use Rattle.text.specs.LineLaws.{part, end-most, next-is, at-is}
+use Rattle.listing.specs.Hops.{samples}
 use Rattle.listing.proofs.hop.read_hop.Statement.{statement}
 use Rattle.listing.proofs.hop.read_hop.Tie as tie
 

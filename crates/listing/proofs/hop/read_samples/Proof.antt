@@ -18,11 +18,12 @@ use Rattle.arithmetic.specs.Lists.{table}
 use Rattle.arithmetic.specs.ListLaws.{Filled, filled-none, filled-more, filled-all}
 use Rattle.arithmetic.specs.IntegerLaws.{ints}
 use Rattle.arithmetic.specs.OrderLaws.{bounds}
-use Rattle.listing.specs.Bytes.{comma}
-use Rattle.listing.specs.Number.{isNumber, value}
-use Rattle.listing.specs.Lines.{indexOf, split, fields, isHop}
-use Rattle.listing.specs.LineLaws.{part, end-most, part-first, part-found, part-last}
-use Rattle.listing.specs.HopLaws.{sample-number, sample-is, hop-fields, hop-field, hop-samples}
+use Rattle.text.specs.Bytes.{comma}
+use Rattle.text.specs.Number.{mostDigits, isNumber, value}
+use Rattle.text.specs.Lines.{indexOf, split, fields}
+use Rattle.text.specs.LineLaws.{part, end-most, part-first, part-found, part-last}
+use Rattle.listing.specs.Hops.{isHop}
+use Rattle.listing.specs.HopLaws.{number-fits, sample-number, sample-is, hop-fields, hop-field, hop-samples}
 use Rattle.listing.proofs.hop.read_samples.Statement.{statement}
 use Rattle.listing.proofs.hop.read_samples.Tie as tie
 
@@ -52,8 +53,8 @@ module _ (line : List ℕ) (out₀ out : List ℤ) (p i e : ℕ) (t : T (isHop (
       let f = part-first comma line p e (R .within h) is in
       same (sym (f .1) ∙ R .left h ∙ rest) .0
 
-  field-number : T (isNumber (part line p e))
-  field-number = rw field-is (sample-number (getD (fields line) i []) (hop-field (length out₀) line t i h))
+  field-number : T (isNumber mostDigits (part line p e))
+  field-number = rw field-is (number-fits (getD (fields line) i []) (sample-number (getD (fields line) i []) (hop-field (length out₀) line t i h)))
 
   field-fits : SFits w16 (value (part line p e))
   field-fits =
@@ -101,7 +102,7 @@ module _ (c : tie.After-find Inv-loop μ-loop) where
   end≤ : c .find .result ≤ length (text (c .before))
   end≤ = end-most comma (text (c .before)) (c .before .before .loop .at) (c .find .result) (loop (c .before) .within (turn (c .before))) (c .find .ensures)
 
-  number : T (isNumber (part (text (c .before)) (c .before .before .loop .at) (c .find .result)))
+  number : T (isNumber mostDigits (part (text (c .before)) (c .before .before .loop .at) (c .find .result)))
   number = field-number (text (c .before)) (out₀ (c .before)) (c .before .before .loop .out) (c .before .before .loop .at) (c .before .before .loop .i) (c .find .result) (c .before .before .before .before .pre) (loop (c .before)) (turn (c .before)) (c .find .ensures)
 
   fits : SFits w16 (value (part (text (c .before)) (c .before .before .loop .at) (c .find .result)))

@@ -6,10 +6,12 @@ use native.Mathlib.Omega.{arith}
 use borrow.Author.Needs.{needs}
 use lib.ListN.{length}
 use Rattle.arithmetic.specs.Lists.{table}
-use Rattle.listing.specs.Bytes.{word-hop, word-s}
-use Rattle.listing.specs.Number.{decimal}
-use Rattle.listing.specs.Print.{Put, more, line, header}
-use Rattle.listing.specs.PrintLaws.{put-none, put-then, put-length, decimal-most, names-next}
+use Rattle.text.specs.Number.{decimal}
+use Rattle.text.specs.Lines.{more, line}
+use Rattle.text.specs.Buffers.{Put}
+use Rattle.text.specs.BufferLaws.{put-none, put-then, put-length}
+use Rattle.listing.specs.Print.{word-hop, word-s, header}
+use Rattle.listing.specs.PrintLaws.{decimal-most, names-next}
 use Rattle.listing.proofs.print.put_header.Statement.{statement}
 use Rattle.listing.proofs.print.put_header.Tie as tie
 

@@ -1,6 +1,7 @@
 -- `put_name` meets its contract: the comma and the letter, and at most five digits behind them.
 use native.Mathlib.Omega.{arith}
-use Rattle.listing.specs.PrintLaws.{put-then, decimal-most}
+use Rattle.text.specs.BufferLaws.{put-then}
+use Rattle.listing.specs.PrintLaws.{decimal-most}
 use borrow.Author.Needs.{needs}
 use Rattle.listing.proofs.print.put_name.Statement.{statement}
 use Rattle.listing.proofs.print.put_name.Tie as tie

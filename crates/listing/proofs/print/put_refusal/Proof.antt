@@ -4,14 +4,17 @@ use mathlib.Core.List.{List, [], _∷_, _++_, append-assoc, append-nil}
 use Prim.Native.Nat.{ℕ, _+_, _≤_, _<_}
 use native.Mathlib.Omega.{arith}
 use lib.ListN.{length}
-use lib.IntN.{pos, natAbs}
+use lib.IntN.{pos}
 use mir.Syntax.{w64}
 use mir.Val.{toZ}
 use mir.Facts.{toZ-pos}
-use Rattle.listing.specs.Bytes.{lineFeed, comma, word-refused}
-use Rattle.listing.specs.Number.{decimal, printed}
-use Rattle.listing.specs.Print.{Put, more, line, refusal}
-use Rattle.listing.specs.PrintLaws.{put-then, put-length, decimal-most}
+use Rattle.text.specs.Bytes.{lineFeed, comma}
+use Rattle.text.specs.Number.{decimal, printed}
+use Rattle.text.specs.Lines.{more, line}
+use Rattle.text.specs.Buffers.{Put}
+use Rattle.text.specs.BufferLaws.{put-then, put-length}
+use Rattle.listing.specs.Print.{word-refused, refusal}
+use Rattle.listing.specs.PrintLaws.{decimal-most, printed-most}
 use borrow.Author.Needs.{needs}
 use Rattle.listing.proofs.print.put_refusal.Statement.{statement}
 use Rattle.listing.proofs.print.put_refusal.Tie as tie
@@ -21,8 +24,8 @@ module _ (n : ℕ) (h : n ≤ 99999) where
   is : toZ w64 n ≡ pos n
   is = toZ-pos w64 (omega arith)
 
-  small : natAbs (toZ w64 n) ≤ 99999
-  small = rw is h
+  small : length (printed (toZ w64 n)) ≤ 6
+  small = printed-most (toZ w64 n) (rw is h)
 
   -- a field that holds it
   field : {out after : List ℕ} {place next : ℕ} → Put (comma ∷ printed (toZ w64 n)) out place after next → Put (comma ∷ decimal n) out place after next
@@ -63,13 +66,13 @@ cast-put-field : tie.Need-cast-put-field
 cast-put-field c = search needs
 
 put-field-requires : tie.Need-put-field-requires
-put-field-requires c κs = let w = c .before .before .before in let s = w .before .before .before .before in (small (s .args .code) (s .pre .0), omega (arith, word w .behind, put-length (word w), s .pre .2))
+put-field-requires c κs = let w = c .before .before .before in let s = w .before .before .before .before in omega (arith, small (s .args .code) (s .pre .0), word w .behind, put-length (word w), s .pre .2)
 
 cast-put-field-2 : tie.Need-cast-put-field-2
 cast-put-field-2 c = search needs
 
 put-field-requires-2 : tie.Need-put-field-requires-2
-put-field-requires-2 c κs = let f = c .before .before .before in (small (start f .args .line) (start f .pre .1), omega (arith, code-room f))
+put-field-requires-2 c κs = let f = c .before .before .before in omega (arith, small (start f .args .line) (start f .pre .1), code-room f)
 
 put-byte-requires : tie.Need-put-byte-requires
 put-byte-requires c κs = line-room (c .before .before .before)

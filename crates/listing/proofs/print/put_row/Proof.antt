@@ -6,15 +6,18 @@ use native.Mathlib.Omega.{arith}
 use borrow.Author.Needs.{needs}
 use lib.ListN.{length, getD, take}
 use lib.Seq.{take-all}
-use lib.IntN.{ℤ, pos}
+use lib.IntN.{ℤ, pos, natAbs}
 use mir.Syntax.{w16, w64}
 use mir.Val.{SFits, toZ, ofZ}
 use mir.Facts.{toZ-ofZ, sfits-widen}
 use Rattle.arithmetic.specs.OrderLaws.{abs-sfits}
 use Rattle.arithmetic.specs.Lists.{at}
-use Rattle.listing.specs.Number.{decimal, printed}
-use Rattle.listing.specs.Print.{Put, more, line, row}
-use Rattle.listing.specs.PrintLaws.{put-none, put-then, put-length, decimal-most, printed-most, samples-next}
+use Rattle.text.specs.Number.{decimal, printed}
+use Rattle.text.specs.Lines.{more, line}
+use Rattle.text.specs.Buffers.{Put}
+use Rattle.text.specs.BufferLaws.{put-none, put-then, put-length}
+use Rattle.listing.specs.Print.{row}
+use Rattle.listing.specs.PrintLaws.{decimal-most, printed-most, samples-next}
 use Rattle.listing.proofs.print.put_row.Statement.{statement}
 use Rattle.listing.proofs.print.put_row.Tie as tie
 
@@ -56,6 +59,9 @@ module _ (c : tie.After-put-field-arg Inv-loop μ-loop) where
   wide : SFits w64 sample
   wide = sfits-widen tt fits
 
+  few : natAbs sample ≤ 99999
+  few = omega (arith, abs-sfits fits)
+
   is : toZ w64 (ofZ w64 (toZ w16 (ofZ w16 sample))) ≡ sample
   is = rw (toZ-ofZ fits) (toZ-ofZ wide)
 
@@ -76,7 +82,9 @@ cast-put-field : tie.Need-cast-put-field Inv-loop μ-loop
 cast-put-field c = rw (toZ-ofZ (fits c)) (wide c)
 
 put-field-requires : tie.Need-put-field-requires Inv-loop μ-loop
-put-field-requires c κs = rw (is (c .before)) (omega (arith, abs-sfits (fits (c .before))), omega (arith, room (c .before .before .before)))
+put-field-requires c κs =
+    let a = c .before in
+    rw (is a) (omega (arith, printed-most (sample a) (few a), room (a .before .before)))
 
 add-i : tie.Need-add-i Inv-loop μ-loop
 add-i c = search needs
@@ -92,7 +100,7 @@ loop-again c =
     let put = rw (is a) at (p .put-field .ensures) in (
       search needs,
       rw (samples-next (xs l) (l .loop .i) (a .before .loop-test .taken)) (put-then (l .loop .inv .1) put),
-      omega (arith, l .loop .inv .2, put .behind, printed-most (sample a) (omega (arith, abs-sfits (fits a)))),
+      omega (arith, l .loop .inv .2, put .behind, printed-most (sample a) (few a)),
     )
 
 put-byte-requires : tie.Need-put-byte-requires Inv-loop μ-loop

@@ -10,11 +10,13 @@ use lib.Seq.{length-take-le}
 use mir.Syntax.{w64}
 use mir.Val.{toZ, ofZ}
 use mir.Facts.{toZ-ofZ}
-use Rattle.listing.specs.Bytes.{lineFeed}
-use Rattle.listing.specs.Number.{value}
-use Rattle.listing.specs.Lines.{lines, remainder}
-use Rattle.listing.specs.LineLaws.{end-most}
+use Rattle.arithmetic.specs.TestLaws.{is-T}
+use Rattle.text.specs.Bytes.{lineFeed}
+use Rattle.text.specs.Number.{value}
+use Rattle.text.specs.Lines.{lines, remainder}
+use Rattle.text.specs.LineLaws.{end-most}
 use Rattle.listing.specs.Verdicts.{byLength, verdict}
+use Rattle.listing.specs.HopLaws.{number-fits}
 use Rattle.listing.specs.VerdictLaws.{size-first, first-unended, first-bad, first-value}
 use Rattle.listing.proofs.verdict.verify.Statement.{statement}
 use Rattle.listing.proofs.verdict.verify.Tie as tie
@@ -66,7 +68,7 @@ add-verify-length : tie.Need-add-verify-length
 add-verify-length c = omega (arith, end≤ (c .before .before .before .before))
 
 value-requires : tie.Need-value-requires
-value-requires c κs = rw (sym (c .before .is-number .ensures) ∙ not-false (c .before .is-number .result) (c .if3 .left)) tt
+value-requires c κs = number-fits _ (is-T (sym (c .before .is-number .ensures) ∙ not-false (c .before .is-number .result) (c .if3 .left)))
 
 verify-length-requires : tie.Need-verify-length-requires
 verify-length-requires c κs = omega (arith, end≤ (c .before .before .before .before .before))

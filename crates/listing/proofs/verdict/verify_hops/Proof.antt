@@ -1,8 +1,8 @@
 -- `verify_hops` meets its contract. Invariant: the verdict on all the lines is the verdict on those from `at` on, behind the hops counted.
 use mathlib.Core.Path.{_≡_, refl, sym, _∙_}
 use borrow.Author.Tests.{not-true, not-false}
-use Rattle.listing.specs.Bytes.{lineFeed}
-use Rattle.listing.specs.LineLaws.{end-most}
+use Rattle.text.specs.Bytes.{lineFeed}
+use Rattle.text.specs.LineLaws.{end-most}
 use Rattle.listing.specs.VerdictLaws.{left, left-end, left-unended, left-bad, left-next}
 use Prim.Native.Nat.{_-_, _≤_, _<_}
 use native.Mathlib.Omega.{arith}

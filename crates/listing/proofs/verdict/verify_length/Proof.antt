@@ -16,7 +16,7 @@ use mir.Facts.{toZ-ofZ}
 use Rattle.arithmetic.specs.IntegerLaws.{ints}
 use Rattle.arithmetic.specs.OrderLaws.{ltZ-false, abs-sfits}
 use Rattle.cosine.specs.Kernels.{tabled}
-use Rattle.listing.specs.Lines.{lines, remainder}
+use Rattle.text.specs.Lines.{lines, remainder}
 use Rattle.listing.specs.VerdictLaws.{length-below, length-other, length-tabled}
 use Rattle.listing.proofs.verdict.verify_length.Statement.{statement}
 use Rattle.listing.proofs.verdict.verify_length.Tie as tie

@@ -1,35 +1,29 @@
 -- `fold` meets its contract. The invariant: the first j places are those of the folded block.
 use mathlib.Core.Path.{_≡_, refl, _∙_}
-use mathlib.Core.List.{List}
-use Prim.Native.Nat.{ℕ, _-_, _*_, _^_, _≤_, _<_}
+use Prim.Native.Nat.{ℕ, _-_, _^_, _≤_, _<_}
 use native.Mathlib.Omega.{arith}
 use borrow.Author.Count.{below-more}
 use lib.ListN.{length}
-use lib.IntN.{ℤ, pos, natAbs}
+use lib.IntN.{pos, natAbs}
 use mir.Syntax.{w32}
 use mir.Facts.{toZ-ofZ}
-use Rattle.arithmetic.specs.Lists.{at, table}
+use Rattle.arithmetic.specs.Lists.{table}
 use Rattle.arithmetic.specs.ListLaws.{Filled, filled-none, filled-more, filled-all, getD-table}
-use Rattle.transform.specs.Analysis.{y}
-use Rattle.transform.specs.FoldLaws.{folded}
+use Rattle.transform.specs.HopLaws.{hops}
 use Rattle.transform.proofs.fold.fold.Statement.{statement}
 use Rattle.transform.proofs.fold.fold.Tie as tie
 
--- the folded block
-abbrev block : List ℤ → List ℤ → List ℤ → ℕ → ℕ → ℤ
-block left right x m = folded (2 * m) (y (2 * m) (at left) (at right) x)
-
 abbrev Inv-loop : tie.InvT-loop
-Inv-loop left right x z₀ m j₀ z j = (j ≤ length z₀) × Filled (block left right x (length z₀)) j z z₀ × ((i : ℕ) → i < j → natAbs (block left right x (length z₀) i) ≤ 2 ^ 24)
+Inv-loop left right x z₀ m j₀ z j = (j ≤ length z₀) × Filled (hops (length z₀) left right x) j z z₀ × ((i : ℕ) → i < j → natAbs (hops (length z₀) left right x i) ≤ 2 ^ 24)
 
 abbrev μ-loop : tie.MeasureT-loop
 μ-loop left right x z₀ m j₀ z j = length z₀ - j
 
 loop-holds : tie.Need-loop-holds Inv-loop μ-loop
-loop-holds c = (omega arith, filled-none (block (c .args .left .now) (c .args .right .now) (c .args .x .now) (length (c .args .z .now))) (c .args .z .now), λ i p. absurd (omega arith))
+loop-holds c = (omega arith, filled-none (hops (length (c .args .z .now)) (c .args .left .now) (c .args .right .now) (c .args .x .now)) (c .args .z .now), λ i p. absurd (omega arith))
 
 folded-at-requires : tie.Need-folded-at-requires Inv-loop μ-loop
-folded-at-requires c κs = let q = c .before .before .pre in (q .0, q .1, q .2, q .3, omega arith, q .4, q .5)
+folded-at-requires c κs = let q = c .before .before .pre in (q .0, (q .1 .0, (q .1 .1, omega arith)))
 
 mul-t9 : tie.Need-mul-t9 Inv-loop μ-loop
 mul-t9 c = omega arith
@@ -47,7 +41,7 @@ loop-again : tie.Need-loop-again Inv-loop μ-loop
 loop-again c =
     let l = c .before .before in
     let a = l .before .args in
-    let f = block (a .left .now) (a .right .now) (a .x .now) (length (a .z .now)) in (
+    let f = hops (length (a .z .now)) (a .left .now) (a .right .now) (a .x .now) in (
       omega arith,
       filled-more f (l .loop .j) (l .loop .z) (a .z .now) _ (l .loop .inv .1)
           (omega (arith, l .loop .inv .1 .room))
@@ -62,7 +56,7 @@ returns : tie.Need-returns Inv-loop μ-loop
 returns c =
     let a = c .before .before .args in
     let l = c .before .loop in
-    let f = block (a .left .now) (a .right .now) (a .x .now) (length (a .z .now)) in
+    let f = hops (length (a .z .now)) (a .left .now) (a .right .now) (a .x .now) in
     let e : l .j ≡ length (a .z .now) = omega arith in
     let z : l .z ≡ table (length (a .z .now)) f = filled-all f (length (a .z .now)) (l .z) (a .z .now) (rw e at (l .inv .1)) refl in (
       z,

@@ -40,7 +40,7 @@ rnd-shift-requires c κs =
     let s = c .before .before .before in
     let w = at (s .args .half .now) (s .args .i) in
     let x = at (s .args .x .now) (s .args .n) in
-    let p = abs-mul-le w x {A = 2 ^ 26} {B = 2 ^ 15} (s .pre .0 .small (s .args .i) (s .pre .1)) (natAbs-le x (c .before .weighted-arg2 .given)) in
+    let p = abs-mul-le w x {A = 2 ^ 26} {B = 2 ^ 15} (s .pre .0 .small (s .args .i) (s .pre .1 .0)) (natAbs-le x (c .before .weighted-arg2 .given)) in
     (omega arith, omega arith, rw (product-is c) (omega (arith, p)))
 
 -- what the rounding gives is the windowed sample, and small
@@ -54,7 +54,7 @@ small : (c : tie.After-rnd-shift) → natAbs (c .rnd-shift .result) ≤ 2 ^ 23
 small c =
     let s = c .before .before .before .before in
     rw (is c)
-    (windowed-size (s .args .half .now) (s .args .i) (s .args .x .now) (s .args .n) (s .pre .0 .small (s .args .i) (s .pre .1))
+    (windowed-size (s .args .half .now) (s .args .i) (s .args .x .now) (s .args .n) (s .pre .0 .small (s .args .i) (s .pre .1 .0))
     (natAbs-le (at (s .args .x .now) (s .args .n)) (c .before .before .weighted-arg2 .given)))
 
 cast-result : tie.Need-cast-result

@@ -14,7 +14,8 @@ use Rattle.arithmetic.specs.Sums.{sum}
 use Rattle.arithmetic.specs.Lists.{at}
 use Rattle.arithmetic.specs.OrderLaws.{abs-mul-le, sfits-abs}
 use Rattle.arithmetic.specs.SumLaws.{sum-abs, sum-zero, sum-next}
-use Rattle.transform.specs.LiftLaws.{raised, place}
+use Rattle.tables.specs.LiftLists.{place}
+use Rattle.transform.specs.LiftLaws.{raised}
 use Rattle.transform.proofs.sums.column.Statement.{statement}
 use Rattle.transform.proofs.sums.column.Tie as tie
 
@@ -39,18 +40,18 @@ module _ (c : tie.Start Inv-loop μ-loop) where
   k = c .args .k
 
   in-rows : (j : ℕ) → j < length z → j * length z + k < length rows
-  in-rows j p = omega (arith, place (length z) j k p (c .pre .1), c .pre .0)
+  in-rows j p = omega (arith, place (length z) j k p (c .pre .1 .0), c .pre .0)
 
   most : length z * length z ≤ 36 * 36
-  most = mul-le-mul (c .pre .2) (c .pre .2)
+  most = mul-le-mul (c .pre .1 .1 .0) (c .pre .1 .1 .0)
 
   part-abs : (j : ℕ) → j ≤ length z → natAbs (sum j (term z rows k)) ≤ 36 * 2 ^ 57
   part-abs j p =
       omega (
         arith,
         sum-abs j (term z rows k) (2 ^ 30 * 2 ^ 27)
-            (λ i q. abs-mul-le (at z i) (at rows (i * length z + k)) (c .pre .3 .size i (omega arith)) (c .pre .4 .size (i * length z + k) (in-rows i (omega arith)))),
-        c .pre .2,
+            (λ i q. abs-mul-le (at z i) (at rows (i * length z + k)) (c .pre .1 .1 .1 .0 .size i (omega arith)) (c .pre .1 .1 .1 .1 .size (i * length z + k) (in-rows i (omega arith)))),
+        c .pre .1 .1 .0,
       )
 
   part-fits : (j : ℕ) → j ≤ length z → SFits w64 (sum j (term z rows k))
@@ -83,9 +84,9 @@ product-requires c κs =
     let s = l .before in
     let j = l .loop .j in
     let p : j < length (z s) = omega arith in (
-      rw (toZ-ofZ {w = w32} (sfits-abs (at (z s) j) (omega (arith, s .pre .3 .size j p)))) (s .pre .3 .sign j p),
-      rw (toZ-ofZ {w = w32} (sfits-abs (at (rows s) (j * length (z s) + k s)) (omega (arith, s .pre .4 .size (j * length (z s) + k s) (in-rows s j p)))))
-          (s .pre .4 .sign (j * length (z s) + k s) (in-rows s j p)),
+      rw (toZ-ofZ {w = w32} (sfits-abs (at (z s) j) (omega (arith, s .pre .1 .1 .1 .0 .size j p)))) (s .pre .1 .1 .1 .0 .sign j p),
+      rw (toZ-ofZ {w = w32} (sfits-abs (at (rows s) (j * length (z s) + k s)) (omega (arith, s .pre .1 .1 .1 .1 .size (j * length (z s) + k s) (in-rows s j p)))))
+          (s .pre .1 .1 .1 .1 .sign (j * length (z s) + k s) (in-rows s j p)),
     )
 
 -- the sum with the next product

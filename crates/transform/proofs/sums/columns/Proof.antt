@@ -21,25 +21,25 @@ loop-holds : tie.Need-loop-holds Inv-loop μ-loop
 loop-holds c = (omega arith, filled-none (raised (c .args .z .now) (c .args .rows .now)) (c .args .t .now))
 
 column-requires : tie.Need-column-requires Inv-loop μ-loop
-column-requires c κs = let s = c .before .before in (s .pre .0, omega (arith, s .pre .1), s .pre .2, s .pre .3, s .pre .4)
+column-requires c κs = let s = c .before .before in (s .pre .0, (omega (arith, s .pre .1 .0), (s .pre .1 .1 .0, (s .pre .1 .1 .1 .0, s .pre .1 .1 .1 .1))))
 
 mul-t8 : tie.Need-mul-t8 Inv-loop μ-loop
-mul-t8 c = omega (arith, c .before .before .before .pre .1)
+mul-t8 c = omega (arith, c .before .before .before .pre .1 .0)
 
 slice-set-from-t : tie.Need-slice-set-from-t Inv-loop μ-loop
 slice-set-from-t c = omega (arith, c .before .before .loop .inv .1 .room)
 
 add-k : tie.Need-add-k Inv-loop μ-loop
-add-k c = omega (arith, c .before .before .before .pre .1)
+add-k c = omega (arith, c .before .before .before .pre .1 .0)
 
 loop-less : tie.Need-loop-less Inv-loop μ-loop
-loop-less c = omega (arith, c .before .before .before .pre .1)
+loop-less c = omega (arith, c .before .before .before .pre .1 .0)
 
 loop-again : tie.Need-loop-again Inv-loop μ-loop
 loop-again c =
     let l = c .before .before in
     let a = l .before .args in (
-      omega (arith, l .before .pre .1),
+      omega (arith, l .before .pre .1 .0),
       filled-more (raised (a .z .now) (a .rows .now)) (l .loop .k) (l .loop .t) (a .t .now) _ (l .loop .inv .1)
           (omega (arith, l .loop .inv .1 .room))
           (toZ-ofZ {w = w64} {z = c .column .result} (record { sfits = c .column .ok }) ∙ c .column .ensures),
@@ -51,8 +51,8 @@ same-length c = c .before .loop .inv .1 .room
 returns : tie.Need-returns Inv-loop μ-loop
 returns c =
     let a = c .before .before .args in
-    let e : c .before .loop .k ≡ length (a .z .now) = omega (arith, c .before .before .pre .1) in
-    filled-all (raised (a .z .now) (a .rows .now)) (length (a .z .now)) (c .before .loop .t) (a .t .now) (rw e at (c .before .loop .inv .1)) (c .before .before .pre .1)
+    let e : c .before .loop .k ≡ length (a .z .now) = omega (arith, c .before .before .pre .1 .0) in
+    filled-all (raised (a .z .now) (a .rows .now)) (length (a .z .now)) (c .before .loop .t) (a .t .now) (rw e at (c .before .loop .inv .1)) (c .before .before .pre .1 .0)
 
 pub columns-spec : {M : Type 1} → statement M
 columns-spec =

@@ -11,7 +11,8 @@ use mir.Facts.{toZ-ofZ}
 use Rattle.arithmetic.specs.Lists.{at}
 use Rattle.arithmetic.specs.ListLaws.{Filled, filled-none, filled-more, filled-all}
 use Rattle.arithmetic.specs.OrderLaws.{sfits-abs}
-use Rattle.transform.specs.LiftLaws.{lifted, size-up}
+use Rattle.tables.specs.LiftLists.{size-up}
+use Rattle.transform.specs.LiftLaws.{lifted}
 use Rattle.transform.proofs.sums.lift.Statement.{statement}
 use Rattle.transform.proofs.sums.lift.Tie as tie
 

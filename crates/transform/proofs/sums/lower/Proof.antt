@@ -25,7 +25,7 @@ abbrev μ-loop : tie.MeasureT-loop
 μ-loop z base t₀ all k₀ k-end t k = length z - k
 
 total-requires : tie.Need-total-requires Inv-loop μ-loop
-total-requires c κs = (c .pre .2, c .pre .3)
+total-requires c κs = (c .pre .1 .1 .0, c .pre .1 .1 .1 .0)
 
 -- what the kernel's lift added, as the machine has it
 module _ (c : tie.After-total Inv-loop μ-loop) where
@@ -41,7 +41,7 @@ module _ (c : tie.After-total Inv-loop μ-loop) where
   all-abs : natAbs all ≤ 2 ^ 26 * (36 * 2 ^ 30)
   all-abs =
       abs-mul-le (pos (2 ^ 26)) (sum (length z) (at z)) {A = 2 ^ 26} {B = 36 * 2 ^ 30} (omega arith)
-      (omega (arith, sum-abs (length z) (at z) (2 ^ 30) (λ i p. c .before .pre .3 .small i p), c .before .pre .2))
+      (omega (arith, sum-abs (length z) (at z) (2 ^ 30) (λ i p. c .before .pre .1 .1 .1 .0 .small i p), c .before .pre .1 .1 .0))
 
   all-fits : SFits w64 all
   all-fits = sfits-abs all (omega (arith, all-abs))
@@ -53,16 +53,16 @@ loop-holds : tie.Need-loop-holds Inv-loop μ-loop
 loop-holds c = (omega arith, filled-none (lowered (c .before .args .z .now) (c .before .args .base .now) (c .before .args .t .now)) (c .before .args .t .now))
 
 mul-lowered : tie.Need-mul-lowered Inv-loop μ-loop
-mul-lowered c = omega (arith, c .before .before .before .pre .1, c .before .loop .inv .1 .room)
+mul-lowered c = omega (arith, c .before .before .before .pre .1 .0, c .before .loop .inv .1 .room)
 
 slice-copy-out-lowered : tie.Need-slice-copy-out-lowered Inv-loop μ-loop
-slice-copy-out-lowered c = omega (arith, c .before .before .before .pre .1, c .before .loop .inv .1 .room)
+slice-copy-out-lowered c = omega (arith, c .before .before .before .pre .1 .0, c .before .loop .inv .1 .room)
 
 mul-lowered-2 : tie.Need-mul-lowered-2 Inv-loop μ-loop
-mul-lowered-2 c = omega (arith, c .before .before .before .before .pre .0, c .before .before .before .before .pre .1)
+mul-lowered-2 c = omega (arith, c .before .before .before .before .pre .0, c .before .before .before .before .pre .1 .0)
 
 shared-slice-copy-out-lowered : tie.Need-shared-slice-copy-out-lowered Inv-loop μ-loop
-shared-slice-copy-out-lowered c = omega (arith, c .before .before .before .before .pre .0, c .before .before .before .before .pre .1)
+shared-slice-copy-out-lowered c = omega (arith, c .before .before .before .before .pre .0, c .before .before .before .before .pre .1 .0)
 
 -- a sum as the machine has it: as it was before the loop
 module _ (c : tie.After-lowered-arg2 Inv-loop μ-loop) where
@@ -81,7 +81,7 @@ module _ (c : tie.After-lowered-arg2 Inv-loop μ-loop) where
       filled-rest (lowered (z (l .before)) base t) k (l .loop .t) t (pos 0) (l .loop .inv .1)
 
   sum-abs-t : natAbs (at t k) ≤ 36 * 2 ^ 57
-  sum-abs-t = let s = c .before .before .before .before .before in s .pre .4 .small k (omega arith)
+  sum-abs-t = let s = c .before .before .before .before .before in s .pre .1 .1 .1 .1 .small k (omega arith)
 
   sum-is : toZ w64 (ofZ w64 (at (c .before .before .before .loop .t) k)) ≡ at t k
   sum-is = rw as-it-was (toZ-ofZ (sfits-abs (at t k) (omega (arith, sum-abs-t))))
@@ -96,23 +96,23 @@ lowered-requires : tie.Need-lowered-requires Inv-loop μ-loop
 lowered-requires c κs = rw (sum-is c, all-is c) (sum-abs-t c, omega (arith, all-abs (c .before .before .before .before)))
 
 mul-t16 : tie.Need-mul-t16 Inv-loop μ-loop
-mul-t16 c = omega (arith, c .before .before .before .before .before .before .pre .1)
+mul-t16 c = omega (arith, c .before .before .before .before .before .before .pre .1 .0)
 
 slice-set-from-t : tie.Need-slice-set-from-t Inv-loop μ-loop
 slice-set-from-t c = omega (arith, c .before .before .before .before .loop .inv .1 .room)
 
 add-k : tie.Need-add-k Inv-loop μ-loop
-add-k c = omega (arith, c .before .before .before .before .before .before .pre .1)
+add-k c = omega (arith, c .before .before .before .before .before .before .pre .1 .0)
 
 loop-less : tie.Need-loop-less Inv-loop μ-loop
-loop-less c = omega (arith, c .before .before .before .before .before .before .pre .1)
+loop-less c = omega (arith, c .before .before .before .before .before .before .pre .1 .0)
 
 loop-again : tie.Need-loop-again Inv-loop μ-loop
 unfolding lowered
 loop-again c =
     let l = c .before .before .before .before in
     let a = l .before .before .args in (
-      omega (arith, l .before .before .pre .1),
+      omega (arith, l .before .before .pre .1 .0),
       filled-more (lowered (a .z .now) (a .base .now) (a .t .now)) (l .loop .k) (l .loop .t) (a .t .now) _ (l .loop .inv .1)
           (omega (arith, l .loop .inv .1 .room))
           (toZ-ofZ {w = w64} {z = c .lowered .result} (record { sfits = c .lowered .ok }) ∙ c .lowered .ensures ∙ rw (sum-is (c .before), all-is (c .before), base-is (c .before))),
@@ -124,8 +124,8 @@ same-length c = c .before .loop .inv .1 .room
 returns : tie.Need-returns Inv-loop μ-loop
 returns c =
     let a = c .before .before .before .args in
-    let e : c .before .loop .k ≡ length (a .z .now) = omega (arith, c .before .before .before .pre .1) in
-    filled-all (lowered (a .z .now) (a .base .now) (a .t .now)) (length (a .z .now)) (c .before .loop .t) (a .t .now) (rw e at (c .before .loop .inv .1)) (c .before .before .before .pre .1)
+    let e : c .before .loop .k ≡ length (a .z .now) = omega (arith, c .before .before .before .pre .1 .0) in
+    filled-all (lowered (a .z .now) (a .base .now) (a .t .now)) (length (a .z .now)) (c .before .loop .t) (a .t .now) (rw e at (c .before .loop .inv .1)) (c .before .before .before .pre .1 .0)
 
 pub lower-spec : {M : Type 1} → statement M
 lower-spec =

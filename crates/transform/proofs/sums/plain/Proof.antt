@@ -14,7 +14,7 @@ use Rattle.arithmetic.specs.Sums.{sum}
 use Rattle.arithmetic.specs.Lists.{at}
 use Rattle.arithmetic.specs.OrderLaws.{abs-sub, abs-mul-le, sfits-abs}
 use Rattle.arithmetic.specs.SumLaws.{sum-abs, sum-zero, sum-next}
-use Rattle.transform.specs.LiftLaws.{place}
+use Rattle.tables.specs.LiftLists.{place}
 use Rattle.transform.proofs.sums.plain.Statement.{statement}
 use Rattle.transform.proofs.sums.plain.Tie as tie
 
@@ -39,21 +39,21 @@ module _ (c : tie.Start Inv-loop μ-loop) where
   k = c .args .k
 
   in-rows : (j : ℕ) → j < length x → j * length x + k < length rows
-  in-rows j p = omega (arith, place (length x) j k p (c .pre .1), c .pre .0)
+  in-rows j p = omega (arith, place (length x) j k p (c .pre .1 .0), c .pre .0)
 
   most : length x * length x ≤ 36 * 36
-  most = mul-le-mul (c .pre .2) (c .pre .2)
+  most = mul-le-mul (c .pre .1 .1 .0) (c .pre .1 .1 .0)
 
   less : (j : ℕ) → j < length x → natAbs (at rows (j * length x + k) -ℤ pos (2 ^ 26)) ≤ 2 ^ 27 + 2 ^ 26
-  less j p = omega (arith, abs-sub (at rows (j * length x + k)) (pos (2 ^ 26)), c .pre .4 .size (j * length x + k) (in-rows j p))
+  less j p = omega (arith, abs-sub (at rows (j * length x + k)) (pos (2 ^ 26)), c .pre .1 .1 .1 .1 .size (j * length x + k) (in-rows j p))
 
   part-abs : (j : ℕ) → j ≤ length x → natAbs (sum j (term x rows k)) ≤ 36 * 2 ^ 57
   part-abs j p =
       omega (
         arith,
         sum-abs j (term x rows k) (2 ^ 29 * (2 ^ 27 + 2 ^ 26))
-            (λ i q. abs-mul-le (at x i) (at rows (i * length x + k) -ℤ pos (2 ^ 26)) (c .pre .3 .small i (omega arith)) (less i (omega arith))),
-        c .pre .2,
+            (λ i q. abs-mul-le (at x i) (at rows (i * length x + k) -ℤ pos (2 ^ 26)) (c .pre .1 .1 .1 .0 .small i (omega arith)) (less i (omega arith))),
+        c .pre .1 .1 .0,
       )
 
   part-fits : (j : ℕ) → j ≤ length x → SFits w64 (sum j (term x rows k))

@@ -1,14 +1,15 @@
 -- `sums` meets its contract: the inputs are lifted, summed with the lifted kernel, and the lifts are taken off.
 use mathlib.Core.Path.{_≡_, sym, ap, ap₂, _∙_}
 use mathlib.Core.List.{List}
-use Prim.Native.Nat.{ℕ, _*_, _/_, _^_, _≤_, _<_}
+use Prim.Native.Nat.{ℕ, _*_, _/_, _^_, _≤_}
 use native.Mathlib.Omega.{arith}
 use lib.ListN.{length}
-use lib.IntN.{ℤ, pos}
+use lib.IntN.{ℤ}
 use Rattle.arithmetic.specs.Lists.{table, Small}
-use Rattle.arithmetic.specs.ListLaws.{length-table, getD-table}
-use Rattle.transform.specs.InverseLaws.{folds}
-use Rattle.transform.specs.LiftLaws.{Lifted, lifted, lifted-length, lifted-is, lift-length, lift-is, base-length, raised, raised-small, lowered-is, folds-abs}
+use Rattle.arithmetic.specs.ListLaws.{length-table}
+use Rattle.tables.specs.LiftLists.{Lifted, lift-length, lift-is, base-length}
+use Rattle.transform.specs.LiftLaws.{lifted, lifted-length, lifted-is, raised, raised-small, lowered-is}
+use Rattle.transform.specs.Stages.{sums-of}
 use borrow.Author.Needs.{needs}
 use Rattle.transform.proofs.sums.sums.Statement.{statement}
 use Rattle.transform.proofs.sums.sums.Tie as tie
@@ -34,24 +35,24 @@ module _ (c : tie.After-lift) where
   z-is = c .lift .ensures
 
   z-length : length z ≡ n / 2
-  z-length = ap length z-is ∙ lifted-length x ∙ c .before .before .pre .1
+  z-length = ap length z-is ∙ lifted-length x ∙ c .before .before .pre .0 .long
 
   z-lifted : Lifted z (2 ^ 30)
-  z-lifted = rw z-is (lifted-is x (c .before .before .pre .2))
+  z-lifted = rw z-is (lifted-is x (c .before .before .pre .0 .small))
 
   rows-length : length rows ≡ length z * length z
-  rows-length = ap length (c .before .before .pre .3) ∙ lift-length n ∙ sym (ap₂ (λ (a b : ℕ). a * b) z-length z-length)
+  rows-length = ap length (c .before .before .pre .1 .0 .rows-are) ∙ lift-length n ∙ sym (ap₂ (λ (a b : ℕ). a * b) z-length z-length)
 
   rows-lifted : Lifted rows (2 ^ 27)
-  rows-lifted = rw (c .before .before .pre .3) (lift-is n)
+  rows-lifted = rw (c .before .before .pre .1 .0 .rows-are) (lift-is n)
 
   most : length z ≤ 36
-  most = omega (arith, z-length, c .before .before .pre .0)
+  most = omega (arith, z-length, c .before .before .pre .0 .most)
 
 columns-requires : tie.Need-columns-requires
 columns-requires c κs =
     let f = c .before .before .before in
-    (rows-length f, f .before .before .pre .6 ∙ sym (z-length f), most f, z-lifted f, rows-lifted f)
+    (rows-length f, (f .before .before .pre .1 .1 .second ∙ sym (z-length f), (most f, (z-lifted f, rows-lifted f))))
 
 -- the sums, as `columns` leaves them
 module _ (c : tie.After-columns) where
@@ -73,13 +74,7 @@ module _ (c : tie.After-columns) where
 lower-requires : tie.Need-lower-requires
 lower-requires c κs =
     let g = c .before .before .before in
-    let q = f g .before .before .pre in (
-      ap length (q .4) ∙ base-length (n (f g)) ∙ sym (z-length (f g)),
-      t-length g,
-      most (f g),
-      record { small = λ i p. z-lifted (f g) .size i p },
-      t-small g,
-    )
+    let q = f g .before .before .pre in (ap length (q .1 .0 .base-are) ∙ base-length (n (f g)) ∙ sym (z-length (f g)), (t-length g, (most (f g), (record { small = λ i p. z-lifted (f g) .size i p }, t-small g))))
 
 same-length : tie.Need-same-length
 same-length c = search needs
@@ -93,16 +88,8 @@ returns c =
     let a = f g .before .before .args in
     let q = f g .before .before .pre in
     let s = c .before .lower .last .1 .1 .0 in
-    let e : s ≡ table (n (f g) / 2) (folds (n (f g)) (x (f g))) =
-    lowered-is (n (f g)) (x (f g)) (z (f g)) (rows (f g)) (a .base .now) (t g) s (q .1) (z-is (f g)) (q .3) (q .4) (t-is g) (c .before .lower .ensures)
-    in (
-      e,
-      record {
-        small = λ i p.
-            let b : i < n (f g) / 2 = omega (arith, ap length e, length-table (folds (n (f g)) (x (f g))) (n (f g) / 2)) in
-            rw (e, getD-table (folds (n (f g)) (x (f g))) (pos 0) (n (f g) / 2) i b) (omega (arith, folds-abs (n (f g)) (x (f g)) (2 ^ 29) (q .1) (q .2) i, q .0));
-      },
-    )
+    sums-of (n (f g)) (x (f g)) s (q .0)
+    (lowered-is (n (f g)) (x (f g)) (z (f g)) (rows (f g)) (a .base .now) (t g) s (q .0 .long) (z-is (f g)) (q .1 .0 .rows-are) (q .1 .0 .base-are) (t-is g) (c .before .lower .ensures))
 
 pub sums-spec : {M : Type 1} → statement M
 sums-spec = tie.close (tie.spec lift-requires columns-requires lower-requires same-length same-length-2 returns)

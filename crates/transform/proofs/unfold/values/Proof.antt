@@ -20,7 +20,7 @@ loop-holds : tie.Need-loop-holds Inv-loop μ-loop
 loop-holds c = (omega arith, filled-none (valueAt (c .args .left .now) (c .args .right .now) (c .args .t .now)) (c .args .v .now))
 
 value-requires : tie.Need-value-requires Inv-loop μ-loop
-value-requires c κs = let q = c .before .before .pre in (q .0, q .1, q .3, omega (arith, q .2), q .4, q .5, q .6)
+value-requires c κs = let q = c .before .before .pre in (q .0, (q .1 .1 .0, (omega (arith, q .1 .0), q .1 .1 .1)))
 
 mul-t9 : tie.Need-mul-t9 Inv-loop μ-loop
 mul-t9 c = omega arith

@@ -1,0 +1,24 @@
+-- A block's coefficients by a route: definitions. Document 01, 'Analysis' and 'Short route'.
+use mathlib.Core.Bool.{Bool}
+use mathlib.Core.List.{List}
+use Prim.Native.Nat.{ℕ}
+use lib.IntN.{ℤ}
+use Rattle.cosine.specs.Kernels.{tabled, rising, falling}
+use Rattle.transform.specs.Analysis.{y, direct}
+use Rattle.split.specs.ShortRoute as R
+use Rattle.analysis.specs.declared.Route.{Route}
+use Rattle.analysis.specs.declared.Route.the-variants.{Direct, Short}
+
+-- the lengths at which a route is offered
+unfoldable pub offered : Route → ℕ → Bool
+offered Direct N = tabled N
+offered Short N = R.offered N
+
+-- the M coefficients of a windowed block, by a route
+unfoldable pub spectrum : Route → ℕ → (ℕ → ℤ) → List ℤ
+spectrum Direct N y = direct N y
+spectrum Short N y = R.short N y
+
+-- the M coefficients of a block x of N samples, by a route, with the sine window
+unfoldable pub coefficients : Route → ℕ → List ℤ → List ℤ
+coefficients route N x = spectrum route N (y N (rising N) (falling N) x)

@@ -1,0 +1,31 @@
+-- Laws of a block by a route: a route is offered at tabled lengths only, and gives M coefficients.
+use mathlib.Core.Path.{_≡_}
+use mathlib.Core.List.{List}
+use Prim.Native.Nat.{ℕ, _/_}
+use lib.Dec.{T}
+use lib.ListN.{length}
+use lib.IntN.{ℤ}
+use Rattle.arithmetic.specs.ListLaws.{length-table}
+use Rattle.cosine.specs.Kernels.{tabled, rising, falling}
+use Rattle.transform.specs.Analysis.{y, X, direct}
+use Rattle.split.specs.ShortRoute.{shortX, short}
+use Rattle.split.specs.OfferLaws as O
+use Rattle.analysis.specs.declared.Route.{Route}
+use Rattle.analysis.specs.declared.Route.the-variants.{Direct, Short}
+use Rattle.analysis.specs.Analysis.{offered, spectrum, coefficients}
+
+-- a route is offered at tabled lengths only
+pub offered-tabled : (route : Route) (N : ℕ) → T (offered route N) → T (tabled N)
+unfolding offered
+offered-tabled Direct N o = o
+offered-tabled Short N o = O.offered-tabled N o
+
+-- M coefficients by either route
+spectrum-length : (route : Route) (N : ℕ) (u : ℕ → ℤ) → length (spectrum route N u) ≡ N / 2
+unfolding spectrum direct short
+spectrum-length Direct N u = length-table (X N u) (N / 2)
+spectrum-length Short N u = length-table (shortX N u) (N / 2)
+
+pub coefficients-length : (route : Route) (N : ℕ) (x : List ℤ) → length (coefficients route N x) ≡ N / 2
+unfolding coefficients
+coefficients-length route N x = spectrum-length route N (y N (rising N) (falling N) x)

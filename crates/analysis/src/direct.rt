@@ -1,0 +1,94 @@
+// The direct analysis of one block, a body for each length: each lends its own tables and calls every leaf by itself, so that the compiler knows every
+// count. The leaves are in `transform`.
+ghost use mathlib.Core.Path.{_≡_};
+ghost use Prim.Native.Nat.{_/_};
+ghost use lib.Dec.{T};
+ghost use lib.ListN.{length};
+ghost use Rattle.cosine.specs.Kernels.{tabled, rising, falling};
+ghost use Rattle.transform.specs.Analysis.{y, direct};
+
+fn direct_12(x: &[i16], out: &mut [i32])
+    requires { ⌜ length (now x) ≡ 12 ⌝ }
+    requires { ⌜ length (now out) ≡ 6 ⌝ }
+    ensures { λ _. ⌜ now (out .exit) ≡ direct 12 (y 12 (rising 12) (falling 12) (now (x .entry))) ⌝ }
+{
+    let rise_12 = tables::rise_12();
+    let fall_12 = tables::fall_12();
+    let rows_12 = tables::rows_12();
+    let mut z = [0i32; 6];
+    let mut t = [0i64; 6];
+    transform::folded_block(12, &rise_12, &fall_12, x, &mut z);
+    transform::sums::plain_sums(12, &z, &rows_12, &mut t);
+    transform::direct_block(12, x, &z, &t, out);
+}
+
+fn direct_24(x: &[i16], out: &mut [i32])
+    requires { ⌜ length (now x) ≡ 24 ⌝ }
+    requires { ⌜ length (now out) ≡ 12 ⌝ }
+    ensures { λ _. ⌜ now (out .exit) ≡ direct 24 (y 24 (rising 24) (falling 24) (now (x .entry))) ⌝ }
+{
+    let rise_24 = tables::rise_24();
+    let fall_24 = tables::fall_24();
+    let rows_24 = tables::rows_24();
+    let base_24 = tables::base_24();
+    let mut z = [0i32; 12];
+    let mut l = [0i32; 12];
+    let mut t = [0i64; 12];
+    transform::folded_block(24, &rise_24, &fall_24, x, &mut z);
+    transform::sums::sums(24, &z, &rows_24, &base_24, &mut l, &mut t);
+    transform::direct_block(24, x, &z, &t, out);
+}
+
+fn direct_36(x: &[i16], out: &mut [i32])
+    requires { ⌜ length (now x) ≡ 36 ⌝ }
+    requires { ⌜ length (now out) ≡ 18 ⌝ }
+    ensures { λ _. ⌜ now (out .exit) ≡ direct 36 (y 36 (rising 36) (falling 36) (now (x .entry))) ⌝ }
+{
+    let rise_36 = tables::rise_36();
+    let fall_36 = tables::fall_36();
+    let rows_36 = tables::rows_36();
+    let base_36 = tables::base_36();
+    let mut z = [0i32; 18];
+    let mut l = [0i32; 18];
+    let mut t = [0i64; 18];
+    transform::folded_block(36, &rise_36, &fall_36, x, &mut z);
+    transform::sums::sums(36, &z, &rows_36, &base_36, &mut l, &mut t);
+    transform::direct_block(36, x, &z, &t, out);
+}
+
+fn direct_72(x: &[i16], out: &mut [i32])
+    requires { ⌜ length (now x) ≡ 72 ⌝ }
+    requires { ⌜ length (now out) ≡ 36 ⌝ }
+    ensures { λ _. ⌜ now (out .exit) ≡ direct 72 (y 72 (rising 72) (falling 72) (now (x .entry))) ⌝ }
+{
+    let rise_72 = tables::rise_72();
+    let fall_72 = tables::fall_72();
+    let rows_72 = tables::rows_72();
+    let base_72 = tables::base_72();
+    let mut z = [0i32; 36];
+    let mut l = [0i32; 36];
+    let mut t = [0i64; 36];
+    transform::folded_block(72, &rise_72, &fall_72, x, &mut z);
+    transform::sums::sums(72, &z, &rows_72, &base_72, &mut l, &mut t);
+    transform::direct_block(72, x, &z, &t, out);
+}
+
+// The coefficients of a block by the direct route, for a tabled length: each lends its own tables.
+pub fn analyse(n: usize, x: &[i16], out: &mut [i32])
+    requires { ⌜ T (tabled n) × (length (now x) ≡ n) × (length (now out) ≡ n / 2) ⌝ }
+    ensures { λ _. ⌜ now (out .exit) ≡ direct n (y n (rising n) (falling n) (now (x .entry))) ⌝ }
+{
+    if n == 12 {
+        direct_12(x, out);
+        return;
+    }
+    if n == 24 {
+        direct_24(x, out);
+        return;
+    }
+    if n == 36 {
+        direct_36(x, out);
+        return;
+    }
+    direct_72(x, out);
+}

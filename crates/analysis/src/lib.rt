@@ -1,0 +1,27 @@
+// The routes, and one block of a length at which its route is offered, valid by its requires.
+// No function here is a public call: `recording` and the public calls over blocks call `analyse_block`, after every check, and `listing` the direct route.
+pub mod direct;
+mod short;
+
+ghost use mathlib.Core.Path.{_≡_};
+ghost use Prim.Native.Nat.{_/_};
+ghost use lib.Dec.{T};
+ghost use lib.ListN.{length};
+ghost use Rattle.analysis.specs.Analysis.{offered, coefficients};
+
+// How a block is analysed. The short route is document 01's term for the one in thirds.
+pub enum Route {
+    Direct,
+    Short,
+}
+
+// A valid block's coefficients, by a route.
+pub fn analyse_block(route: Route, n: usize, x: &[i16], out: &mut [i32])
+    requires { ⌜ T (offered route n) × (length (now x) ≡ n) × (length (now out) ≡ n / 2) ⌝ }
+    ensures { λ _. ⌜ now (out .exit) ≡ coefficients route n (now (x .entry)) ⌝ }
+{
+    match route {
+        Route::Direct => direct::analyse(n, x, out),
+        Route::Short => short::analyse(n, x, out),
+    }
+}

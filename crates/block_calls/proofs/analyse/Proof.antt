@@ -1,0 +1,67 @@
+-- `analyse` meets its contract: the causes in their order, each with the number that its law gives.
+use mathlib.Core.Path.{_≡_, sym, _∙_}
+use mathlib.Core.Bool.{true}
+use borrow.Author.Tests.{not-true, not-false}
+use Rattle.analysis.specs.Analysis.{offered}
+use Rattle.arithmetic.specs.TestLaws.{is-T}
+use Rattle.block_calls.specs.Analysis.{analyseCauses}
+use Rattle.checks.specs.Causes.First.{none, stop, pass}
+use Rattle.checks.specs.CauseLaws.{same, differs}
+use Rattle.block_calls.specs.AnalysisLaws.{analyse-answer}
+use borrow.Author.Needs.{needs}
+use Rattle.block_calls.proofs.analyse.Statement.{statement}
+use Rattle.block_calls.proofs.analyse.Tie as tie
+
+is-offered-requires : tie.Need-is-offered-requires
+is-offered-requires c κs = search needs
+
+-- what the test of the length says
+good : (c : tie.Else1) → offered (c .before .before .args .route) (c .before .before .args .n) ≡ true
+good c = sym (c .before .is-offered .ensures) ∙ not-false (c .before .is-offered .result) (c .if1 .left)
+
+returns : tie.Need-returns
+unfolding analyseCauses
+returns c =
+    let a = c .before .before .args in
+    analyse-answer (a .route) (a .n) (a .x .now) (a .out .now) (stop (sym (c .before .is-offered .ensures) ∙ not-true (c .before .is-offered .result) (c .if1 .taken)))
+
+returns-2 : tie.Need-returns-2
+unfolding analyseCauses
+returns-2 c =
+    let a = c .before .before .before .args in
+    analyse-answer (a .route) (a .n) (a .x .now) (a .out .now) (pass (good (c .before)) (differs (c .if2 .taken)))
+
+returns-3 : tie.Need-returns-3
+unfolding analyseCauses
+returns-3 c =
+    let a = c .before .before .before .before .args in
+    analyse-answer (a .route) (a .n) (a .x .now) (a .out .now) (pass (good (c .before .before)) (same (c .before .if2 .left) (differs (c .if3 .taken))))
+
+analyse-block-requires : tie.Need-analyse-block-requires
+analyse-block-requires c κs =
+    let e = c .before in
+    let a = e .before .before .before .before .args in
+    (is-T (good (e .before .before)), e .before .if2 .left, e .if3 .left)
+
+same-length : tie.Need-same-length
+same-length c = search needs
+
+returns-4 : tie.Need-returns-4
+unfolding analyseCauses
+returns-4 c =
+    let e = c .before .before .before in
+    let a = e .before .before .before .before .args in
+    let t = analyse-answer (a .route) (a .n) (a .x .now) (a .out .now) (pass (good (e .before .before)) (same (e .before .if2 .left) (same (e .if3 .left) none))) in
+    (t .0, c .before .analyse-block .ensures ∙ t .1)
+
+pub analyse-spec : {M : Type 1} → statement M
+analyse-spec =
+    tie.close
+    (tie.spec
+    is-offered-requires
+    returns
+    returns-2
+    returns-3
+    analyse-block-requires
+    same-length
+    returns-4)

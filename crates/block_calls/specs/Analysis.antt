@@ -1,0 +1,26 @@
+-- What `analyse` answers: definitions. Document 01, 'Analysis', 'Short route' and 'When the bank declines'.
+use mathlib.Core.Bool.{cond}
+use mathlib.Core.List.{List, [], _∷_}
+use Prim.Native.Nat.{ℕ, _/_}
+use lib.Dec.{eqb}
+use lib.ListN.{length}
+use lib.IntN.{ℤ}
+use Rattle.analysis.specs.declared.Route.{Route}
+use Rattle.analysis.specs.Analysis.{offered, coefficients}
+use Rattle.checks.specs.Causes.{Cause, _unless_, firstCause}
+
+-- the causes of `analyse`: the route is not offered at N, a buffer's length differs from the stated one
+unfoldable pub analyseCauses : Route → ℕ → List ℤ → List ℤ → List Cause
+analyseCauses route N x out =
+    1 unless offered route N
+    ∷ 2 unless eqb (length x) N
+    ∷ 2 unless eqb (length out) (N / 2)
+    ∷ []
+
+-- the number that it returns
+unfoldable pub analyseCode : Route → ℕ → List ℤ → List ℤ → ℕ
+analyseCode route N x out = firstCause (analyseCauses route N x out)
+
+-- what `out` then holds: the coefficients, or what it held
+unfoldable pub analyseOut : Route → ℕ → List ℤ → List ℤ → List ℤ
+analyseOut route N x out = cond (eqb (analyseCode route N x out) 0) (coefficients route N x) out

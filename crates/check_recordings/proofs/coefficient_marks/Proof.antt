@@ -1,0 +1,12 @@
+-- `coefficient_marks` meets its contract, by the law of a repeated entry: to write out a list of this length is slow.
+use mathlib.Core.Path.{sym}
+use lib.IntN.{ℤ, pos}
+use lib.ListN.{length-replicate}
+use Rattle.check_recordings.proofs.coefficient_marks.Statement.{statement}
+use Rattle.check_recordings.proofs.coefficient_marks.Tie as tie
+
+returns : tie.Need-returns
+returns c = sym (length-replicate {A = ℤ} 147528 (pos 12345))
+
+pub coefficient-marks-spec : {M : Type 1} → statement M
+coefficient-marks-spec = tie.close (tie.spec returns)

@@ -1,0 +1,4 @@
+pub mod Causes
+pub mod Limits
+pub mod CauseLaws
+pub mod LimitLaws

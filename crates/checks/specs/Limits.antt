@@ -1,0 +1,30 @@
+-- The limits of document 01, 'When the bank declines', as tests: definitions.
+use mathlib.Core.Bool.{Bool, cond, false}
+use mathlib.Core.List.{List}
+use Prim.Native.Nat.{ℕ, _*_, _^_}
+use lib.Dec.{leb}
+use lib.IntN.{ℤ, pos, negℤ}
+use lib.Signed.{leZ}
+use Rattle.arithmetic.specs.Lists.{at, all}
+
+-- z lies within plus or minus b, the ends included
+unfoldable pub within : ℤ → ℕ → Bool
+within z b = cond (leZ (negℤ (pos b)) z) (leZ z (pos b)) false
+
+-- the limit of a coefficient, and of a tail entry of a stream with hops of M samples
+abbrev pub coefficientLimit : ℕ
+coefficientLimit = 536870912
+
+unfoldable pub tailLimit : ℕ → ℕ
+tailLimit M = M * 2 ^ 55
+
+-- the first m coefficients are within the limit
+unfoldable pub inRange : ℕ → List ℤ → Bool
+inRange m x = all m (λ k. within (at x k) coefficientLimit)
+
+-- B is 1 to 4,096
+abbrev pub blockLimit : ℕ
+blockLimit = 4096
+
+unfoldable pub counted : ℕ → Bool
+counted B = cond (leb 1 B) (leb B blockLimit) false

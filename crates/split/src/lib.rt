@@ -1,0 +1,44 @@
+// The leaves of the short route on one block of a length at which it is offered, valid by their requires. Definitions are in specs/.
+// No function here is a public call: the bodies for each length in `analysis` call them.
+mod block;
+pub mod parts;
+pub mod thirds;
+
+ghost use mathlib.Core.Path.{_≡_};
+ghost use Prim.Native.Nat.{_/_};
+ghost use lib.ListN.{length};
+ghost use Rattle.arithmetic.specs.Lists.{at};
+ghost use Rattle.cosine.specs.Kernels.{rising, falling};
+ghost use Rattle.transform.specs.Analysis.{y};
+ghost use Rattle.tables.specs.HalfLaws.{Lent};
+ghost use Rattle.split.specs.ShortRoute.{Unrounded, short};
+ghost use Rattle.split.specs.PartLaws.{Windowed};
+
+// The block, windowed. The length's window is lent.
+// A length's function calls this, its split and the next one by itself, so that the compiler knows every count.
+pub fn windowed_block(n: usize, left: &[i32], right: &[i32], x: &[i16], block: &mut [i32])
+    requires { ⌜ Lent n (now left) (now right) ⌝ }
+    requires { ⌜ length (now x) ≡ n ⌝ }
+    requires { ⌜ length (now block) ≡ n ⌝ }
+    ensures { λ _. ⌜ Windowed n (now (x .entry)) (now (block .exit)) ⌝ }
+{
+    block::windowed_block(left, right, x, block);
+}
+
+// The coefficients of a block x from the sums of its split, `block` being the block windowed.
+pub fn short_block(
+    n: usize,
+    x: &[i16],
+    block: &[i32],
+    a: &[i64],
+    plus: &[i64],
+    minus: &[i64],
+    out: &mut [i32],
+)
+    requires { ⌜ Windowed n (now x) (now block) ⌝ }
+    requires { ⌜ Unrounded n (at (now block)) (now a) (now plus) (now minus) ⌝ }
+    requires { ⌜ length (now out) ≡ n / 2 ⌝ }
+    ensures { λ _. ⌜ now (out .exit) ≡ short n (y n (rising n) (falling n) (now (x .entry))) ⌝ }
+{
+    block::coefficients(a, plus, minus, out);
+}

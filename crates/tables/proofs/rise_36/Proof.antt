@@ -1,0 +1,15 @@
+-- `rise_36` by computing.
+use Rattle.arithmetic.specs.Lists.{table}
+use Rattle.cosine.specs.Cosine.{reduced, toHalf, toTurn, continued}
+use Rattle.cosine.specs.TableLaws.{numbers}
+use Rattle.cosine.specs.CosineLaws.{tableC}
+use Rattle.tables.specs.HalfLaws.{riseNumbers, rise-numbers}
+use Rattle.tables.proofs.rise_36.Statement.{statement}
+use Rattle.tables.proofs.rise_36.Tie as tie
+
+returns : tie.Need-returns
+unfolding riseNumbers table tableC continued toTurn toHalf reduced numbers
+returns c = rise-numbers 36
+
+pub rise-36-spec : {M : Type 1} → statement M
+rise-36-spec = tie.close (tie.spec returns)

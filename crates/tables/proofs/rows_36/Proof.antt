@@ -1,0 +1,15 @@
+-- `rows_36` by computing.
+use Rattle.arithmetic.specs.Lists.{table}
+use Rattle.cosine.specs.Cosine.{reduced, toHalf, toTurn, continued}
+use Rattle.cosine.specs.TableLaws.{numbers}
+use Rattle.cosine.specs.CosineLaws.{tableC}
+use Rattle.tables.specs.LiftLists.{liftNumbers, lift-numbers}
+use Rattle.tables.proofs.rows_36.Statement.{statement}
+use Rattle.tables.proofs.rows_36.Tie as tie
+
+returns : tie.Need-returns
+unfolding liftNumbers table tableC continued toTurn toHalf reduced numbers
+returns c = lift-numbers 36
+
+pub rows-36-spec : {M : Type 1} → statement M
+rows-36-spec = tie.close (tie.spec returns)

@@ -1,0 +1,16 @@
+-- `eb_36` by computing.
+use Rattle.arithmetic.specs.Lists.{table}
+use Rattle.cosine.specs.Cosine.{reduced, toHalf, toTurn, continued}
+use Rattle.cosine.specs.Kernels.{s}
+use Rattle.cosine.specs.TableLaws.{numbers}
+use Rattle.cosine.specs.CosineLaws.{tableC}
+use Rattle.tables.specs.CosineLists.{lent, eB-numbers}
+use Rattle.tables.proofs.thirds.eb_36.Statement.{statement}
+use Rattle.tables.proofs.thirds.eb_36.Tie as tie
+
+returns : tie.Need-returns
+unfolding lent s table tableC continued toTurn toHalf reduced numbers
+returns c = eB-numbers 36
+
+pub eb-36-spec : {M : Type 1} → statement M
+eb-36-spec = tie.close (tie.spec returns)

@@ -1,0 +1,16 @@
+-- `fc_72` by computing.
+use Rattle.arithmetic.specs.Lists.{table}
+use Rattle.cosine.specs.Cosine.{reduced, toHalf, toTurn, continued}
+use Rattle.cosine.specs.Kernels.{s}
+use Rattle.cosine.specs.TableLaws.{numbers}
+use Rattle.cosine.specs.CosineLaws.{tableC}
+use Rattle.tables.specs.CosineLists.{lent, fC-numbers}
+use Rattle.tables.proofs.thirds.fc_72.Statement.{statement}
+use Rattle.tables.proofs.thirds.fc_72.Tie as tie
+
+returns : tie.Need-returns
+unfolding lent s table tableC continued toTurn toHalf reduced numbers
+returns c = fC-numbers 72
+
+pub fc-72-spec : {M : Type 1} → statement M
+fc-72-spec = tie.close (tie.spec returns)

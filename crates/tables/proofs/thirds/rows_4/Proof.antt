@@ -1,0 +1,15 @@
+-- `rows_4` by computing.
+use Rattle.arithmetic.specs.Lists.{table}
+use Rattle.cosine.specs.Cosine.{reduced, toHalf, toTurn, continued}
+use Rattle.cosine.specs.TableLaws.{numbers}
+use Rattle.cosine.specs.CosineLaws.{tableC}
+use Rattle.tables.specs.LiftLists.{liftNumbers, lift-numbers}
+use Rattle.tables.proofs.thirds.rows_4.Statement.{statement}
+use Rattle.tables.proofs.thirds.rows_4.Tie as tie
+
+returns : tie.Need-returns
+unfolding liftNumbers table tableC continued toTurn toHalf reduced numbers
+returns c = lift-numbers 4
+
+pub rows-4-spec : {M : Type 1} → statement M
+rows-4-spec = tie.close (tie.spec returns)

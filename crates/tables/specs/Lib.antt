@@ -1,0 +1,3 @@
+pub mod HalfLaws
+pub mod LiftLists
+pub mod CosineLists
