@@ -26,7 +26,6 @@ def table(name, values, definition):
 def rows(N):
     M = N // 2
     table(f"rows_{N}", [F(N, k, j) + KERNEL for j in range(M) for k in range(M)], f"liftList {N}")
-    table(f"base_{N}", [sum(F(N, k, j) for j in range(M)) for k in range(M)], f"baseList {N}")
 
 
 def lib():
@@ -35,6 +34,7 @@ def lib():
         table(f"rise_{N}", [W(N, n) for n in range(M)], f"riseList {N}")
         table(f"fall_{N}", [W(N, M + n) for n in range(M)], f"fallList {N}")
         rows(N)
+        table(f"base_{N}", [sum(F(N, k, j) for j in range(M)) for k in range(M)], f"baseList {N}")
     return """// The tables that the bank lends, for each length its own: each is a function, whose contract is its definition.
 // Entry j × M + k of ROWS_N is F(k,j) + 2^26, which is never negative, and entry k of BASE_N the sum over j of F(k,j).
 pub mod thirds;
@@ -61,7 +61,7 @@ def thirds():
 // and rC(n), n from 0 to N/3 - 1, each with 2^27 added, so that none is negative; fB with its sign changed first.
 ghost use mathlib.Core.Path.{_≡_};
 ghost use Rattle.cosine.specs.Kernels.{eB, fB, eC, fC};
-ghost use Rattle.tables.specs.LiftLists.{liftList, baseList};
+ghost use Rattle.tables.specs.LiftLists.{liftList};
 ghost use Rattle.tables.specs.CosineLists.{cosines, negated};
 """
 

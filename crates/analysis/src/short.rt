@@ -7,69 +7,52 @@ ghost use lib.ListN.{length};
 ghost use Rattle.arithmetic.specs.Lists.{at};
 ghost use Rattle.cosine.specs.Kernels.{rising, falling};
 ghost use Rattle.transform.specs.Analysis.{y};
+ghost use Rattle.tables.specs.LiftLists.{liftList};
 ghost use Rattle.transform.specs.Stages.{Room};
 ghost use Rattle.split.specs.ShortRoute.{offered, Unrounded, short};
-ghost use Rattle.split.specs.PartLaws.{Given, Inputs, Parts, Rooms, Summed};
+ghost use Rattle.split.specs.PartLaws.{Given, Inputs, Parts, Rooms, summed, Summed};
 use split::parts;
 use split::thirds;
 
-// The split of y, at each length: the inputs of its parts first, and then their sums.
-fn inputs_b_12(y: &[i32], w: &mut [i32], z: &mut [i32], l: &mut [i32])
+// The split of y, at each length. At a short one the sums of each part by itself.
+fn middle_12(y: &[i32], rows: &[i32], t: &mut [i64])
     requires { ⌜ Given 12 (now y) ⌝ }
-    requires { ⌜ length (now w) ≡ 4 ⌝ }
-    requires { ⌜ Room 2 (now z) (now l) ⌝ }
-    ensures { λ _. ⌜ Inputs 1 12 (now (y .entry)) (now (l .exit)) ⌝ }
-{
-    let eb = tables::thirds::eb_12();
-    let fb = tables::thirds::fb_12();
-    thirds::fill_outer(12, 1, y, &eb, &fb, w);
-    parts::part_inputs(12, 1, y, w, z, l);
-}
-
-fn inputs_c_12(y: &[i32], w: &mut [i32], z: &mut [i32], l: &mut [i32])
-    requires { ⌜ Given 12 (now y) ⌝ }
-    requires { ⌜ length (now w) ≡ 4 ⌝ }
-    requires { ⌜ Room 2 (now z) (now l) ⌝ }
-    ensures { λ _. ⌜ Inputs 2 12 (now (y .entry)) (now (l .exit)) ⌝ }
-{
-    let ec = tables::thirds::ec_12();
-    let fc = tables::thirds::fc_12();
-    thirds::fill_outer(12, 2, y, &ec, &fc, w);
-    parts::part_inputs(12, 2, y, w, z, l);
-}
-
-fn inputs_12(y: &[i32], za: &mut [i32], zb: &mut [i32], zg: &mut [i32])
-    requires { ⌜ Given 12 (now y) ⌝ }
-    requires { ⌜ Rooms 2 (now za) (now zb) (now zg) ⌝ }
-    ensures { λ _. ⌜ Parts 12 (now (y .entry)) (now (za .exit)) (now (zb .exit)) (now (zg .exit)) ⌝ }
+    requires { ⌜ now rows ≡ liftList 4 ⌝ }
+    requires { ⌜ length (now t) ≡ 2 ⌝ }
+    ensures { λ _. ⌜ now (t .exit) ≡ summed 0 12 (now (y .entry)) ⌝ }
 {
     let mut w = [0i32; 4];
     let mut z = [0i32; 2];
     thirds::fill_middle(12, y, &mut w);
-    parts::part_inputs(12, 0, y, &w, &mut z, za);
-    inputs_b_12(y, &mut w, &mut z, zb);
-    inputs_c_12(y, &mut w, &mut z, zg);
+    parts::plain_sums(12, 0, y, &w, rows, &mut z, t);
 }
 
-fn sums_12(
-    y: &[i32],
-    za: &[i32],
-    zb: &[i32],
-    zg: &[i32],
-    a: &mut [i64],
-    b: &mut [i64],
-    g: &mut [i64],
-)
-    requires { ⌜ Parts 12 (now y) (now za) (now zb) (now zg) ⌝ }
-    requires { ⌜ Rooms 2 (now a) (now b) (now g) ⌝ }
-    ensures { λ _. ⌜ Summed 12 (now (y .entry)) (now (a .exit)) (now (b .exit)) (now (g .exit)) ⌝ }
+fn outer_b_12(y: &[i32], rows: &[i32], t: &mut [i64])
+    requires { ⌜ Given 12 (now y) ⌝ }
+    requires { ⌜ now rows ≡ liftList 4 ⌝ }
+    requires { ⌜ length (now t) ≡ 2 ⌝ }
+    ensures { λ _. ⌜ now (t .exit) ≡ summed 1 12 (now (y .entry)) ⌝ }
 {
-    let rows = tables::thirds::rows_4();
-    let base = tables::thirds::base_4();
-    parts::three(12, y, za, zb, zg, &rows, a, b, g);
-    parts::part_sums(12, 0, y, za, &base, a);
-    parts::part_sums(12, 1, y, zb, &base, b);
-    parts::part_sums(12, 2, y, zg, &base, g);
+    let eb = tables::thirds::eb_12();
+    let fb = tables::thirds::fb_12();
+    let mut w = [0i32; 4];
+    let mut z = [0i32; 2];
+    thirds::fill_outer(12, 1, y, &eb, &fb, &mut w);
+    parts::plain_sums(12, 1, y, &w, rows, &mut z, t);
+}
+
+fn outer_c_12(y: &[i32], rows: &[i32], t: &mut [i64])
+    requires { ⌜ Given 12 (now y) ⌝ }
+    requires { ⌜ now rows ≡ liftList 4 ⌝ }
+    requires { ⌜ length (now t) ≡ 2 ⌝ }
+    ensures { λ _. ⌜ now (t .exit) ≡ summed 2 12 (now (y .entry)) ⌝ }
+{
+    let ec = tables::thirds::ec_12();
+    let fc = tables::thirds::fc_12();
+    let mut w = [0i32; 4];
+    let mut z = [0i32; 2];
+    thirds::fill_outer(12, 2, y, &ec, &fc, &mut w);
+    parts::plain_sums(12, 2, y, &w, rows, &mut z, t);
 }
 
 fn split_12(y: &[i32], a: &mut [i64], plus: &mut [i64], minus: &mut [i64])
@@ -77,72 +60,53 @@ fn split_12(y: &[i32], a: &mut [i64], plus: &mut [i64], minus: &mut [i64])
     requires { ⌜ Rooms 2 (now a) (now plus) (now minus) ⌝ }
     ensures { λ _. ⌜ Unrounded 12 (at (now (y .entry))) (now (a .exit)) (now (plus .exit)) (now (minus .exit)) ⌝ }
 {
-    let mut za = [0i32; 2];
-    let mut zb = [0i32; 2];
-    let mut zg = [0i32; 2];
+    let rows = tables::thirds::rows_4();
     let mut b = [0i64; 2];
     let mut g = [0i64; 2];
-    inputs_12(y, &mut za, &mut zb, &mut zg);
-    sums_12(y, &za, &zb, &zg, a, &mut b, &mut g);
+    middle_12(y, &rows, a);
+    outer_b_12(y, &rows, &mut b);
+    outer_c_12(y, &rows, &mut g);
     thirds::outer_sums(12, y, a, &b, &g, plus, minus);
 }
 
-fn inputs_b_24(y: &[i32], w: &mut [i32], z: &mut [i32], l: &mut [i32])
+fn middle_24(y: &[i32], rows: &[i32], t: &mut [i64])
     requires { ⌜ Given 24 (now y) ⌝ }
-    requires { ⌜ length (now w) ≡ 8 ⌝ }
-    requires { ⌜ Room 4 (now z) (now l) ⌝ }
-    ensures { λ _. ⌜ Inputs 1 24 (now (y .entry)) (now (l .exit)) ⌝ }
-{
-    let eb = tables::thirds::eb_24();
-    let fb = tables::thirds::fb_24();
-    thirds::fill_outer(24, 1, y, &eb, &fb, w);
-    parts::part_inputs(24, 1, y, w, z, l);
-}
-
-fn inputs_c_24(y: &[i32], w: &mut [i32], z: &mut [i32], l: &mut [i32])
-    requires { ⌜ Given 24 (now y) ⌝ }
-    requires { ⌜ length (now w) ≡ 8 ⌝ }
-    requires { ⌜ Room 4 (now z) (now l) ⌝ }
-    ensures { λ _. ⌜ Inputs 2 24 (now (y .entry)) (now (l .exit)) ⌝ }
-{
-    let ec = tables::thirds::ec_24();
-    let fc = tables::thirds::fc_24();
-    thirds::fill_outer(24, 2, y, &ec, &fc, w);
-    parts::part_inputs(24, 2, y, w, z, l);
-}
-
-fn inputs_24(y: &[i32], za: &mut [i32], zb: &mut [i32], zg: &mut [i32])
-    requires { ⌜ Given 24 (now y) ⌝ }
-    requires { ⌜ Rooms 4 (now za) (now zb) (now zg) ⌝ }
-    ensures { λ _. ⌜ Parts 24 (now (y .entry)) (now (za .exit)) (now (zb .exit)) (now (zg .exit)) ⌝ }
+    requires { ⌜ now rows ≡ liftList 8 ⌝ }
+    requires { ⌜ length (now t) ≡ 4 ⌝ }
+    ensures { λ _. ⌜ now (t .exit) ≡ summed 0 24 (now (y .entry)) ⌝ }
 {
     let mut w = [0i32; 8];
     let mut z = [0i32; 4];
     thirds::fill_middle(24, y, &mut w);
-    parts::part_inputs(24, 0, y, &w, &mut z, za);
-    inputs_b_24(y, &mut w, &mut z, zb);
-    inputs_c_24(y, &mut w, &mut z, zg);
+    parts::plain_sums(24, 0, y, &w, rows, &mut z, t);
 }
 
-fn sums_24(
-    y: &[i32],
-    za: &[i32],
-    zb: &[i32],
-    zg: &[i32],
-    a: &mut [i64],
-    b: &mut [i64],
-    g: &mut [i64],
-)
-    requires { ⌜ Parts 24 (now y) (now za) (now zb) (now zg) ⌝ }
-    requires { ⌜ Rooms 4 (now a) (now b) (now g) ⌝ }
-    ensures { λ _. ⌜ Summed 24 (now (y .entry)) (now (a .exit)) (now (b .exit)) (now (g .exit)) ⌝ }
+fn outer_b_24(y: &[i32], rows: &[i32], t: &mut [i64])
+    requires { ⌜ Given 24 (now y) ⌝ }
+    requires { ⌜ now rows ≡ liftList 8 ⌝ }
+    requires { ⌜ length (now t) ≡ 4 ⌝ }
+    ensures { λ _. ⌜ now (t .exit) ≡ summed 1 24 (now (y .entry)) ⌝ }
 {
-    let rows = tables::thirds::rows_8();
-    let base = tables::thirds::base_8();
-    parts::three(24, y, za, zb, zg, &rows, a, b, g);
-    parts::part_sums(24, 0, y, za, &base, a);
-    parts::part_sums(24, 1, y, zb, &base, b);
-    parts::part_sums(24, 2, y, zg, &base, g);
+    let eb = tables::thirds::eb_24();
+    let fb = tables::thirds::fb_24();
+    let mut w = [0i32; 8];
+    let mut z = [0i32; 4];
+    thirds::fill_outer(24, 1, y, &eb, &fb, &mut w);
+    parts::plain_sums(24, 1, y, &w, rows, &mut z, t);
+}
+
+fn outer_c_24(y: &[i32], rows: &[i32], t: &mut [i64])
+    requires { ⌜ Given 24 (now y) ⌝ }
+    requires { ⌜ now rows ≡ liftList 8 ⌝ }
+    requires { ⌜ length (now t) ≡ 4 ⌝ }
+    ensures { λ _. ⌜ now (t .exit) ≡ summed 2 24 (now (y .entry)) ⌝ }
+{
+    let ec = tables::thirds::ec_24();
+    let fc = tables::thirds::fc_24();
+    let mut w = [0i32; 8];
+    let mut z = [0i32; 4];
+    thirds::fill_outer(24, 2, y, &ec, &fc, &mut w);
+    parts::plain_sums(24, 2, y, &w, rows, &mut z, t);
 }
 
 fn split_24(y: &[i32], a: &mut [i64], plus: &mut [i64], minus: &mut [i64])
@@ -150,16 +114,16 @@ fn split_24(y: &[i32], a: &mut [i64], plus: &mut [i64], minus: &mut [i64])
     requires { ⌜ Rooms 4 (now a) (now plus) (now minus) ⌝ }
     ensures { λ _. ⌜ Unrounded 24 (at (now (y .entry))) (now (a .exit)) (now (plus .exit)) (now (minus .exit)) ⌝ }
 {
-    let mut za = [0i32; 4];
-    let mut zb = [0i32; 4];
-    let mut zg = [0i32; 4];
+    let rows = tables::thirds::rows_8();
     let mut b = [0i64; 4];
     let mut g = [0i64; 4];
-    inputs_24(y, &mut za, &mut zb, &mut zg);
-    sums_24(y, &za, &zb, &zg, a, &mut b, &mut g);
+    middle_24(y, &rows, a);
+    outer_b_24(y, &rows, &mut b);
+    outer_c_24(y, &rows, &mut g);
     thirds::outer_sums(24, y, a, &b, &g, plus, minus);
 }
 
+// A longer one: the inputs of its parts first, lifted, and then the sums of the three at once.
 fn inputs_b_36(y: &[i32], w: &mut [i32], z: &mut [i32], l: &mut [i32])
     requires { ⌜ Given 36 (now y) ⌝ }
     requires { ⌜ length (now w) ≡ 12 ⌝ }

@@ -1,5 +1,5 @@
 -- Laws of the parts of N/3: a part's inputs as the code lends them, and its sums from them.
-use mathlib.Core.Path.{_≡_, refl, sym, ap, _∙_}
+use mathlib.Core.Path.{_≡_, refl, sym, ap, subst, _∙_}
 use mathlib.Core.List.{List}
 use mathlib.Core.Bool.{Bool, true, false, cond}
 use Prim.Native.Nat.{ℕ, _/_, _^_, _≤_, _<_}
@@ -15,6 +15,7 @@ use Rattle.transform.specs.Analysis.{y, S}
 use Rattle.transform.specs.FoldLaws.{folded, folded-size}
 use Rattle.transform.specs.InverseLaws.{folds}
 use Rattle.transform.specs.DirectLaws.{S-folds}
+use Rattle.transform.specs.Stages.{Input}
 use Rattle.tables.specs.HalfLaws.{riseList, fallList}
 use Rattle.tables.specs.LiftLists.{Lifted, liftList, baseList}
 use Rattle.transform.specs.LiftLaws.{lifted, lifted-length, lifted-is, raised, lowered, lowered-is}
@@ -25,26 +26,16 @@ use Rattle.split.specs.ShortStepLaws.{table-small, third-step}
 use Rattle.split.specs.RotationLaws.{rotated, besideE, besideF, signed, rotated-is}
 
 -- a part's inputs, folded to half their number
-abbrev halved : List ℤ → List ℤ
+abbrev pub halved : List ℤ → List ℤ
 halved w = table (length w / 2) (folded (length w) (at w))
 
 -- and lifted
 unfoldable pub inputs : List ℤ → List ℤ
 inputs w = lifted (halved w)
 
-pub inputs-length : (w : List ℤ) → length (inputs w) ≡ length w / 2
+pub inputs-are : (w z l : List ℤ) → z ≡ halved w → l ≡ lifted z → l ≡ inputs w
 unfolding inputs
-inputs-length w = lifted-length (halved w) ∙ length-table (folded (length w) (at w)) (length w / 2)
-
-pub inputs-are : (w z l : List ℤ) → length z ≡ length w / 2 → z ≡ table (length z) (folded (length w) (at w)) → l ≡ lifted z → l ≡ inputs w
-unfolding inputs
-inputs-are w z l m e h = h ∙ ap lifted (e ∙ ap (λ (k : ℕ). table k (folded (length w) (at w))) m)
-
-pub inputs-lifted : (w : List ℤ) → Part (length w) → Small w (2 ^ 26) → Lifted (inputs w) (2 ^ 30)
-unfolding inputs
-inputs-lifted w p s =
-    let t = table-small (length w / 2) (2 ^ 27) (folded (length w) (at w)) (folded-size (length w) p (2 ^ 26) (at w) (λ i q. s .small i q)) in
-    lifted-is (halved w) (record { small = λ i q. omega (arith, t .small i q) })
+inputs-are w z l e h = h ∙ ap lifted e
 
 -- ---- the three parts of the split of N inputs y, by their numbers
 unfoldable pub place : ℕ → ℕ → (ℕ → ℤ) → ℕ → ℤ
@@ -105,19 +96,45 @@ windowed-length N x block e = ap length e ∙ length-table (y N (at (riseList N)
 
 -- w has the inputs of part k
 pub record Third (k N : ℕ) (y w : List ℤ) : Type 0 where
+  pub part : Part (N / 3)
+  pub most : N / 3 / 2 ≤ 36
   pub is : w ≡ third k N (at y)
   pub small : Small w (2 ^ 26)
 
 pub third-made : (k N : ℕ) (y w : List ℤ) → Given N y → w ≡ third k N (at y) → Third k N y w
 unfolding third
 third-made k N y w g h =
-    record { is = h; small = rw h (table-small (N / 3) (2 ^ 26) (place k N (at y)) (λ i l. place-size N (at y) (λ j q. g .small .small j (rw (g .all) q)) k i l)) }
+    record { part = g .part; most = omega (arith, g .whole .most); is = h; small = rw h (table-small (N / 3) (2 ^ 26) (place k N (at y)) (λ i l. place-size N (at y) (λ j q. g .small .small j (rw (g .all) q)) k i l)) }
 
 -- lifted inputs of a part of P, half as many
 pub record Ready (P : ℕ) (z : List ℤ) : Type 0 where
   pub most : P / 2 ≤ 36
   pub long : length z ≡ P / 2
   pub lifted : Lifted z (2 ^ 30)
+
+module _ (k N : ℕ) (y w : List ℤ) (t : Third k N y w) where
+  pub third-long : length w ≡ N / 3
+  third-long = ap length (t .is) ∙ third-length k N (at y)
+
+  -- folded into room for N/6
+  pub third-halved : (m : ℕ) (z : List ℤ) → m ≡ N / 6 → z ≡ table m (folded (length w) (at w)) → z ≡ halved w
+  third-halved m z e h = h ∙ ap (λ (n : ℕ). table n (folded (length w) (at w))) (omega (arith, third-long))
+
+  pub halved-input : (z : List ℤ) → z ≡ halved w → Input (N / 3) z
+  halved-input z e =
+      let p : Part (length w) = subst Part (sym third-long) (t .part) in
+      let s = table-small (length w / 2) (2 ^ 27) (folded (length w) (at w)) (folded-size (length w) p (2 ^ 26) (at w) (λ i q. t .small .small i q)) in
+      rw e (record {
+        most = t .most;
+        long = length-table (folded (length w) (at w)) (length w / 2) ∙ ap (λ (n : ℕ). n / 2) third-long;
+        small = record { small = λ i q. omega (arith, s .small i q) };
+      })
+
+  pub inputs-ready : Ready (N / 3) (inputs w)
+  unfolding inputs
+  inputs-ready =
+      let i = halved-input (halved w) refl in
+      record { most = t .most; long = lifted-length (halved w) ∙ i .long; lifted = lifted-is (halved w) (i .small) }
 
 -- z has those of part k, folded
 pub record Inputs (k N : ℕ) (y z : List ℤ) : Type 0 where
@@ -164,16 +181,19 @@ pub record Summed (N : ℕ) (y a b g : List ℤ) : Type 0 where
   pub b-is : b ≡ summed 1 N y
   pub g-is : g ≡ summed 2 N y
 
--- from the inputs as the code lends them, without what the lifts added
+-- from the folded inputs, and from the inputs as the code lends them, without what the lifts added
 module _ (P : ℕ) (p : Part P) (w : List ℤ) (long : length w ≡ P) where
+  pub halved-sums : (s : List ℤ) → s ≡ table (P / 2) (folds P (halved w)) → s ≡ table (P / 2) (S P (at w))
+  halved-sums s h =
+      let f : halved w ≡ table (P / 2) (folded P (at w)) = ap (λ (n : ℕ). table (n / 2) (folded n (at w))) long in
+      h ∙ table-ext (P / 2) (folds P (halved w)) (S P (at w)) (λ k _. ap (λ (x : List ℤ). folds P x k) f ∙ S-folds P p (at w) k)
+
   pub part-sums : (z base t s : List ℤ) → z ≡ inputs w → base ≡ baseList P → t ≡ table (length z) (raised z (liftList P)) →
       s ≡ table (length z) (lowered z base t) → s ≡ table (P / 2) (S P (at w))
   unfolding inputs
   part-sums z base t s e b u h =
       let l : length (halved w) ≡ P / 2 = length-table (folded (length w) (at w)) (length w / 2) ∙ ap (λ (n : ℕ). n / 2) long in
-      let f : halved w ≡ table (P / 2) (folded P (at w)) = ap (λ (n : ℕ). table (n / 2) (folded n (at w))) long in
-      lowered-is P (halved w) z (liftList P) base t s l e refl b u h
-      ∙ table-ext (P / 2) (folds P (halved w)) (S P (at w)) (λ k _. ap (λ (x : List ℤ). folds P x k) f ∙ S-folds P p (at w) k)
+      halved-sums s (lowered-is P (halved w) z (liftList P) base t s l e refl b u h)
 
 -- their sums are A, B and G
 module _ (N : ℕ) (l : Length N) (t : Part (N / 3)) (y : ℕ → ℤ) (w s : List ℤ) (h : s ≡ table (N / 3 / 2) (S (N / 3) (at w))) where

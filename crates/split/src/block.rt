@@ -25,8 +25,8 @@ fn weighted(w: i32, x: i16) -> i32
     (a * hi + (a * lo >> 13) + 16) >> 5
 }
 
-// Sample n, windowed by entry i of a half of the joint.
-fn windowed(half: &[i32], i: usize, x: &[i16], n: usize) -> i32
+// Sample n, windowed by entry i of a half of the joint, so.
+fn in_parts(half: &[i32], i: usize, x: &[i16], n: usize) -> i32
     requires { ⌜ Weights (now half) ⌝ }
     requires { ⌜ i < length (now half) ⌝ }
     requires { ⌜ n < length (now x) ⌝ }
@@ -36,8 +36,22 @@ fn windowed(half: &[i32], i: usize, x: &[i16], n: usize) -> i32
     weighted(half[i], x[n])
 }
 
+// The same, in a block of `size`.
+fn windowed(size: usize, half: &[i32], i: usize, x: &[i16], n: usize) -> i32
+    requires { ⌜ Weights (now half) ⌝ }
+    requires { ⌜ i < length (now half) ⌝ }
+    requires { ⌜ n < length (now x) ⌝ }
+    ensures { λ r. ⌜ r ≡ windowed (now (half .entry)) i (now (x .entry)) n ⌝ }
+    ensures { λ r. ⌜ natAbs r ≤ 2 ^ 23 ⌝ }
+{
+    if size < crate::LONG {
+        return transform::fold::windowed(half, i, x, n);
+    }
+    in_parts(half, i, x, n)
+}
+
 // One hop, by its half of the window.
-fn window_hop(half: &[i32], x: &[i16], out: &mut [i32])
+fn window_hop(size: usize, half: &[i32], x: &[i16], out: &mut [i32])
     requires { ⌜ Weights (now half) ⌝ }
     requires { ⌜ length (now x) ≡ length (now half) ⌝ }
     requires { ⌜ length (now out) ≡ length (now half) ⌝ }
@@ -45,12 +59,12 @@ fn window_hop(half: &[i32], x: &[i16], out: &mut [i32])
     ensures { λ _. ⌜ Small (now (out .exit)) (2 ^ 23) ⌝ }
 {
     for n in 0..half.len() {
-        out[n] = windowed(half, n, x, n);
+        out[n] = windowed(size, half, n, x, n);
     }
 }
 
 // y(0) .. y(N-1): the first hop by the rising half, the second by the falling half.
-pub fn windowed_block(left: &[i32], right: &[i32], x: &[i16], out: &mut [i32])
+pub fn windowed_block(size: usize, left: &[i32], right: &[i32], x: &[i16], out: &mut [i32])
     requires { ⌜ length (now left) ≡ length (now right) ⌝ }
     requires { ⌜ length (now x) ≡ 2 * length (now left) ⌝ }
     requires { ⌜ length (now out) ≡ length (now x) ⌝ }
@@ -60,8 +74,8 @@ pub fn windowed_block(left: &[i32], right: &[i32], x: &[i16], out: &mut [i32])
     ensures { λ _. ⌜ Small (now (out .exit)) (2 ^ 23) ⌝ }
 {
     let m = left.len();
-    window_hop(left, &x[..m], &mut out[..m]);
-    window_hop(right, &x[m..], &mut out[m..]);
+    window_hop(size, left, &x[..m], &mut out[..m]);
+    window_hop(size, right, &x[m..], &mut out[m..]);
 }
 
 // A sum of the split, divided by 2^k.

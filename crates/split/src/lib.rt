@@ -1,5 +1,5 @@
-// The leaves of the short route on one block of a length at which it is offered, valid by their requires. Definitions are in specs/.
-// No function here is a public call: the bodies for each length in `analysis` call them.
+// The short route's analysis of one block of a length at which it is offered, valid by its requires. Definitions are in specs/.
+// No function here is a public call: `recording` calls `analyse`, after every check of the public calls.
 mod block;
 pub mod parts;
 pub mod thirds;
@@ -14,6 +14,10 @@ ghost use Rattle.tables.specs.HalfLaws.{Lent};
 ghost use Rattle.split.specs.ShortRoute.{Unrounded, short};
 ghost use Rattle.split.specs.PartLaws.{Windowed};
 
+// From this length on products of lifted numbers and of 16 bits pay, which the vector unit makes several at a time. Products of shorter blocks are of
+// 64 bits.
+const LONG: usize = 36;
+
 // The block, windowed. The length's window is lent.
 // A length's function calls this, its split and the next one by itself, so that the compiler knows every count.
 pub fn windowed_block(n: usize, left: &[i32], right: &[i32], x: &[i16], block: &mut [i32])
@@ -22,7 +26,7 @@ pub fn windowed_block(n: usize, left: &[i32], right: &[i32], x: &[i16], block: &
     requires { ⌜ length (now block) ≡ n ⌝ }
     ensures { λ _. ⌜ Windowed n (now (x .entry)) (now (block .exit)) ⌝ }
 {
-    block::windowed_block(left, right, x, block);
+    block::windowed_block(n, left, right, x, block);
 }
 
 // The coefficients of a block x from the sums of its split, `block` being the block windowed.

@@ -48,13 +48,31 @@ fn fold(w: &[i32], z: &mut [i32])
 
 // The inputs w of one of the three parts of y, folded and lifted, into l. The part is named by its number, 0, 1 or 2, and n is the number of y's inputs.
 pub fn part_inputs(n: usize, which: usize, y: &[i32], w: &[i32], z: &mut [i32], l: &mut [i32])
-    requires { ⌜ Given n (now y) ⌝ }
     requires { ⌜ Third which n (now y) (now w) ⌝ }
     requires { ⌜ Room (n / 6) (now z) (now l) ⌝ }
     ensures { λ _. ⌜ Inputs which n (now (y .entry)) (now (l .exit)) ⌝ }
 {
     fold(w, z);
     lift(z, l);
+}
+
+// The sums of one of the three parts of y, w being its inputs, with no lifts but the kernel's. Room is lent for the folded inputs.
+pub fn plain_sums(
+    n: usize,
+    which: usize,
+    y: &[i32],
+    w: &[i32],
+    rows: &[i32],
+    z: &mut [i32],
+    t: &mut [i64],
+)
+    requires { ⌜ Third which n (now y) (now w) ⌝ }
+    requires { ⌜ now rows ≡ liftList (n / 3) ⌝ }
+    requires { ⌜ Room (n / 6) (now z) (now t) ⌝ }
+    ensures { λ _. ⌜ now (t .exit) ≡ summed which n (now (y .entry)) ⌝ }
+{
+    fold(w, z);
+    transform::sums::plain_sums(n / 3, z, rows, t);
 }
 
 // Sum k of each of the three parts x, y and z.

@@ -88,7 +88,7 @@ fn plain(p: i32) -> u64
 }
 
 // e (p - 2^27) + f (q - 2^27): each product has the lifts' own, 2^54, taken out once too often, so 2^55 is put back.
-fn turn(e: i32, f: i32, p: i32, q: i32) -> i64
+fn lifted_turn(e: i32, f: i32, p: i32, q: i32) -> i64
     requires { ⌜ natAbs e ≤ 2 ^ 27 ⌝ }
     requires { ⌜ natAbs f ≤ 2 ^ 27 ⌝ }
     requires { ⌜ natAbs (p -ℤ pos (2 ^ 27)) ≤ 2 ^ 27 ⌝ }
@@ -102,25 +102,50 @@ fn turn(e: i32, f: i32, p: i32, q: i32) -> i64
     (a * c + b * d) as i64 - ((a + b + c + d) * 134217728) as i64 + 36028797018963968
 }
 
+// The same with no lifts but the tables'.
+fn plain_turn(e: i32, f: i32, p: i32, q: i32) -> i64
+    requires { ⌜ natAbs e ≤ 2 ^ 27 ⌝ }
+    requires { ⌜ natAbs f ≤ 2 ^ 27 ⌝ }
+    requires { ⌜ natAbs (p -ℤ pos (2 ^ 27)) ≤ 2 ^ 27 ⌝ }
+    requires { ⌜ natAbs (q -ℤ pos (2 ^ 27)) ≤ 2 ^ 27 ⌝ }
+    ensures { λ r. ⌜ r ≡ e *ℤ (p -ℤ pos (2 ^ 27)) +ℤ f *ℤ (q -ℤ pos (2 ^ 27)) ⌝ }
+{
+    e as i64 * (p as i64 - 134217728) + f as i64 * (q as i64 - 134217728)
+}
+
+// The same in a part of `size` inputs.
+fn turn(size: usize, e: i32, f: i32, p: i32, q: i32) -> i64
+    requires { ⌜ natAbs e ≤ 2 ^ 27 ⌝ }
+    requires { ⌜ natAbs f ≤ 2 ^ 27 ⌝ }
+    requires { ⌜ natAbs (p -ℤ pos (2 ^ 27)) ≤ 2 ^ 27 ⌝ }
+    requires { ⌜ natAbs (q -ℤ pos (2 ^ 27)) ≤ 2 ^ 27 ⌝ }
+    ensures { λ r. ⌜ r ≡ e *ℤ (p -ℤ pos (2 ^ 27)) +ℤ f *ℤ (q -ℤ pos (2 ^ 27)) ⌝ }
+{
+    if size < crate::LONG {
+        return plain_turn(e, f, p, q);
+    }
+    lifted_turn(e, f, p, q)
+}
+
 // The rotation of e and f at place n: rB or rC, as p and q are.
-fn rotated_at(y: &[i32], p: &[i32], q: &[i32], n: usize) -> i32
+fn rotated_at(size: usize, y: &[i32], p: &[i32], q: &[i32], n: usize) -> i32
     requires { ⌜ n < length (now y) / 3 ⌝ }
     requires { ⌜ Small (now y) (2 ^ 23) ⌝ }
     requires { ⌜ Turns (length (now y) / 3) (now p) (now q) ⌝ }
     ensures { λ r. ⌜ r ≡ rotated (length (now (y .entry))) (at (now (y .entry))) (now (p .entry)) (now (q .entry)) n ⌝ }
     ensures { λ r. ⌜ natAbs r ≤ 2 ^ 26 ⌝ }
 {
-    arithmetic::rnd_shift(turn(e_at(y, n), f_at(y, n), p[n], q[n]), 26) as i32
+    arithmetic::rnd_shift(turn(size, e_at(y, n), f_at(y, n), p[n], q[n]), 26) as i32
 }
 
 // The same with its sign: rC's, of part 2, is changed where n + N/12 is even.
-fn outer_at(which: usize, y: &[i32], p: &[i32], q: &[i32], n: usize) -> i32
+fn outer_at(size: usize, which: usize, y: &[i32], p: &[i32], q: &[i32], n: usize) -> i32
     requires { ⌜ n < length (now y) / 3 ⌝ }
     requires { ⌜ Small (now y) (2 ^ 23) ⌝ }
     requires { ⌜ Turns (length (now y) / 3) (now p) (now q) ⌝ }
     ensures { λ r. ⌜ r ≡ signed which (length (now (y .entry))) n (rotated (length (now (y .entry))) (at (now (y .entry))) (now (p .entry)) (now (q .entry)) n) ⌝ }
 {
-    let r = rotated_at(y, p, q, n);
+    let r = rotated_at(size, y, p, q, n);
     if which == 1 {
         return r;
     }
@@ -145,7 +170,7 @@ pub fn fill_outer(n: usize, which: usize, y: &[i32], p: &[i32], q: &[i32], w: &m
     ensures { λ _. ⌜ Third which n (now (y .entry)) (now (w .exit)) ⌝ }
 {
     for i in 0..w.len() {
-        w[i] = outer_at(which, y, p, q, i);
+        w[i] = outer_at(n, which, y, p, q, i);
     }
 }
 

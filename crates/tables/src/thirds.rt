@@ -2,12 +2,10 @@
 // and rC(n), n from 0 to N/3 - 1, each with 2^27 added, so that none is negative; fB with its sign changed first.
 ghost use mathlib.Core.Path.{_≡_};
 ghost use Rattle.cosine.specs.Kernels.{eB, fB, eC, fC};
-ghost use Rattle.tables.specs.LiftLists.{liftList, baseList};
+ghost use Rattle.tables.specs.LiftLists.{liftList};
 ghost use Rattle.tables.specs.CosineLists.{cosines, negated};
 
 const ROWS_4: [i32; 4] = [129109370, 92790314, 92790314, 5108358];
-
-const BASE_4: [i32; 2] = [87681956, -36319056];
 
 const ROWS_8: [i32; 16] = [
     132928250,
@@ -27,8 +25,6 @@ const ROWS_8: [i32; 16] = [
     122907845,
     1289478,
 ];
-
-const BASE_8: [i32; 4] = [171994344, -60396382, 40355572, -34211802];
 
 const EB_12: [i32; 4] = [151586780, 181670861, 199039913, 199039913];
 
@@ -256,22 +252,10 @@ pub fn rows_4() -> [i32; 4]
     ROWS_4
 }
 
-pub fn base_4() -> [i32; 2]
-    ensures { λ r. ⌜ r ≡ baseList 4 ⌝ }
-{
-    BASE_4
-}
-
 pub fn rows_8() -> [i32; 16]
     ensures { λ r. ⌜ r ≡ liftList 8 ⌝ }
 {
     ROWS_8
-}
-
-pub fn base_8() -> [i32; 4]
-    ensures { λ r. ⌜ r ≡ baseList 8 ⌝ }
-{
-    BASE_8
 }
 
 pub fn eb_12() -> [i32; 4]

@@ -15,7 +15,7 @@ fn weighted(w: i32, x: i16) -> i64
 }
 
 // Sample n, windowed by entry i of a half of the joint.
-fn windowed(half: &[i32], i: usize, x: &[i16], n: usize) -> i32
+pub fn windowed(half: &[i32], i: usize, x: &[i16], n: usize) -> i32
     requires { ⌜ Small (now half) (2 ^ 26) ⌝ }
     requires { ⌜ i < length (now half) ⌝ }
     requires { ⌜ n < length (now x) ⌝ }

@@ -1,6 +1,6 @@
 // One block of a tabled length, valid by its requires: window, fold, direct analysis, inverse. Definitions are in specs/.
 // No function here is a public call: the bodies for each length in `analysis` and `synthesis` call them, and `split` the sums.
-mod fold;
+pub mod fold;
 pub mod sums;
 mod unfold;
 

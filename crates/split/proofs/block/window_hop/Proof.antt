@@ -19,10 +19,10 @@ abbrev hop : List ℤ → List ℤ → ℕ → ℤ
 hop half x n = windowed half n x n
 
 abbrev Inv-loop : tie.InvT-loop
-Inv-loop half x out₀ n₀ n-end out n = (n ≤ length half) × Filled (hop half x) n out out₀ × ((i : ℕ) → i < n → natAbs (hop half x i) ≤ 2 ^ 23)
+Inv-loop size half x out₀ n₀ n-end out n = (n ≤ length half) × Filled (hop half x) n out out₀ × ((i : ℕ) → i < n → natAbs (hop half x i) ≤ 2 ^ 23)
 
 abbrev μ-loop : tie.MeasureT-loop
-μ-loop half x out₀ n₀ n-end out n = length half - n
+μ-loop size half x out₀ n₀ n-end out n = length half - n
 
 loop-holds : tie.Need-loop-holds Inv-loop μ-loop
 loop-holds c = (omega arith, filled-none (hop (c .args .half .now) (c .args .x .now)) (c .args .out .now), λ i p. absurd (omega arith))
@@ -30,8 +30,8 @@ loop-holds c = (omega arith, filled-none (hop (c .args .half .now) (c .args .x .
 windowed-requires : tie.Need-windowed-requires Inv-loop μ-loop
 windowed-requires c κs = let q = c .before .before .pre in (q .0, (omega arith, omega (arith, q .1 .0)))
 
-mul-t8 : tie.Need-mul-t8 Inv-loop μ-loop
-mul-t8 c = omega arith
+mul-t9 : tie.Need-mul-t9 Inv-loop μ-loop
+mul-t9 c = omega arith
 
 slice-set-from-out : tie.Need-slice-set-from-out Inv-loop μ-loop
 slice-set-from-out c = let l = c .before .before in omega (arith, l .loop .inv .1 .room, l .before .pre .1 .1)
@@ -82,7 +82,7 @@ window-hop-spec =
     μ-loop
     loop-holds
     windowed-requires
-    mul-t8
+    mul-t9
     slice-set-from-out
     add-n
     loop-less

@@ -60,8 +60,8 @@ returns c =
     let g = c .before in
     let a = f .before .before .before .args in
     let q = f .before .before .before .pre in
-    let first = f .window-hop .last .1 .1 .0 in
-    let second = g .window-hop2 .last .1 .1 .0 in (
+    let first = f .window-hop .last .1 .1 .1 .0 in
+    let second = g .window-hop2 .last .1 .1 .1 .0 in (
       hops-are (a .left .now) (a .right .now) (a .x .now) (a .out .now) first second (q .0) (q .1 .0) (q .1 .1 .0) (f .window-hop .ensures .0) (g .window-hop2 .ensures .0),
       hops-small (a .left .now) (a .right .now) (a .x .now) (a .out .now) first second (q .0) (q .1 .0) (q .1 .1 .0) (f .window-hop .ensures .0) (g .window-hop2 .ensures .0)
           (f .window-hop .ensures .1)

@@ -1,4 +1,4 @@
--- `windowed` meets its contract: an entry of the half times a sample.
+-- `in_parts` meets its contract: an entry of the half times a sample.
 use mathlib.Core.Path.{_≡_}
 use mir.Syntax.{w16, w32}
 use mir.Val.{toZ, ofZ}
@@ -6,8 +6,8 @@ use mir.Facts.{toZ-ofZ}
 use Rattle.arithmetic.specs.Lists.{at}
 use Rattle.transform.specs.HopLaws.{windowed}
 use borrow.Author.Needs.{needs}
-use Rattle.split.proofs.block.windowed.Statement.{statement}
-use Rattle.split.proofs.block.windowed.Tie as tie
+use Rattle.split.proofs.block.in_parts.Statement.{statement}
+use Rattle.split.proofs.block.in_parts.Tie as tie
 
 mul-weighted : tie.Need-mul-weighted
 mul-weighted c = search needs
@@ -43,8 +43,8 @@ returns c =
     rw (toZ-ofZ {w = w32} {z = c .weighted .result} (record { sfits = c .weighted .ok }))
     (rw (w-is (c .before), x-is (c .before)) at (c .weighted .ensures .0), c .weighted .ensures .1)
 
-pub windowed-spec : {M : Type 1} → statement M
-windowed-spec =
+pub in-parts-spec : {M : Type 1} → statement M
+in-parts-spec =
     tie.close
     (tie.spec
     mul-weighted
