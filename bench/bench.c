@@ -21,17 +21,19 @@
 #include <libavutil/tx.h>
 #endif
 
-enum { LONGEST = 4096, LENGTHS = 4 };
+/* the most hops of a recording, and the lengths */
+enum { LONGEST = 4095, LENGTHS = 4 };
 static const size_t lengths[LENGTHS] = {12, 24, 36, 72};
 /* blocks of a batch, for some tens of microseconds at each length */
 static const size_t batches[LENGTHS] = {512, 256, 128, 64};
 
-/* One recording of random samples, its coefficients by direct analysis at the length at hand, and room for every result. */
-static int16_t recording[(LONGEST + 1) * 36];
-static int32_t all_spectra[LENGTHS][LONGEST * 36];
-static int32_t *spectra;
-static int32_t coefficients[LONGEST * 36];
-static int16_t sound[LONGEST * 36];
+/* For each length a recording of random samples between two hops of zeros, its coefficients by direct analysis, and room for every result.
+ * The last hop of a batch is zeros too, so that its blocks are those of a recording of its own, of one hop fewer. Sound begins with the run-in,
+ * so that each sample returns at its place in the padded recording. */
+static int16_t all_padded[LENGTHS][(LONGEST + 2) * 36], *padded;
+static int32_t all_spectra[LENGTHS][(LONGEST + 1) * 36], *spectra;
+static int32_t coefficients[(LONGEST + 1) * 36];
+static int16_t sound[(LONGEST + 1) * 36];
 static int64_t state[DAPPLESCREE_STATE];
 static int64_t tail[36];
 
@@ -40,23 +42,25 @@ static uint32_t refused;
 static void library_direct(size_t n, size_t blocks)
 {
     for (size_t b = 0; b < blocks; b++)
-        refused |= dapplescree_analyse_direct(n, recording + b * (n / 2), n, coefficients + b * (n / 2), n / 2);
+        refused |= dapplescree_analyse_direct(n, padded + b * (n / 2), n, coefficients + b * (n / 2), n / 2);
 }
 
 static void library_short(size_t n, size_t blocks)
 {
     for (size_t b = 0; b < blocks; b++)
-        refused |= dapplescree_analyse_short(n, recording + b * (n / 2), n, coefficients + b * (n / 2), n / 2);
+        refused |= dapplescree_analyse_short(n, padded + b * (n / 2), n, coefficients + b * (n / 2), n / 2);
 }
 
 static void library_recording_direct(size_t n, size_t blocks)
 {
-    refused |= dapplescree_analyse_recording_direct(n, blocks, recording, (blocks + 1) * (n / 2), coefficients, blocks * (n / 2));
+    size_t m = n / 2, hops = blocks - 1;
+    refused |= dapplescree_analyse_recording_direct(n, hops, padded + m, hops * m, coefficients, blocks * m);
 }
 
 static void library_recording_short(size_t n, size_t blocks)
 {
-    refused |= dapplescree_analyse_recording_short(n, blocks, recording, (blocks + 1) * (n / 2), coefficients, blocks * (n / 2));
+    size_t m = n / 2, hops = blocks - 1;
+    refused |= dapplescree_analyse_recording_short(n, hops, padded + m, hops * m, coefficients, blocks * m);
 }
 
 static void library_step(size_t n, size_t blocks)
@@ -68,14 +72,15 @@ static void library_step(size_t n, size_t blocks)
 
 static void library_synthesis(size_t n, size_t blocks)
 {
-    refused |= dapplescree_synthesise_recording(n, blocks, spectra, blocks * (n / 2), sound, blocks * (n / 2));
+    size_t m = n / 2, hops = blocks - 1;
+    refused |= dapplescree_synthesise_recording(n, hops, spectra, blocks * m, sound + m, hops * m);
 }
 
 #define PLAIN_ANALYSIS(call)                                                  \
     static void run_##call(size_t n, size_t blocks)                           \
     {                                                                         \
         for (size_t b = 0; b < blocks; b++)                                   \
-            call(n, recording + b * (n / 2), coefficients + b * (n / 2));     \
+            call(n, padded + b * (n / 2), coefficients + b * (n / 2));        \
     }
 
 #define PLAIN_STEP(call)                                                      \
@@ -116,7 +121,7 @@ static void fftw_analysis(size_t n, size_t blocks)
 {
     size_t m = n / 2, h = m / 2;
     for (size_t b = 0; b < blocks; b++) {
-        const int16_t *x = recording + b * m;
+        const int16_t *x = padded + b * m;
         for (size_t j = 0; j < h; j++)
             dct_in[j] = -window[3 * h - 1 - j] * x[3 * h - 1 - j] - window[3 * h + j] * x[3 * h + j];
         for (size_t j = h; j < m; j++)
@@ -176,7 +181,7 @@ static void avtx_analysis(size_t n, size_t blocks)
     size_t m = n / 2;
     for (size_t b = 0; b < blocks; b++) {
         for (size_t i = 0; i < n; i++)
-            tx_in[i] = window[i] * recording[b * m + i];
+            tx_in[i] = window[i] * padded[b * m + i];
         forward_tx(forward, tx_out, tx_in, sizeof(float));
         for (size_t k = 0; k < m; k++)
             coefficients[b * m + k] = (int32_t)lrintf(64 * tx_out[k]);
@@ -257,10 +262,16 @@ static double seconds(clockid_t clock)
 /* Makes what each length needs. */
 static void prepare(void)
 {
+    uint32_t z = 1;
     for (int l = 0; l < LENGTHS; l++) {
         size_t n = lengths[l], m = n / 2;
-        for (size_t b = 0; b < LONGEST; b++)
-            plain_o3_analyse_direct(n, recording + b * m, all_spectra[l] + b * m);
+        for (size_t i = m; i < (LONGEST + 1) * m; i++) {
+            z = z * 1664525u + 1013904223u;
+            all_padded[l][i] = (int16_t)(z >> 16);
+        }
+        memset(all_padded[l] + batches[l] * m, 0, m * sizeof padded[0]);
+        for (size_t b = 0; b <= LONGEST; b++)
+            plain_o3_analyse_direct(n, all_padded[l] + b * m, all_spectra[l] + b * m);
         for (size_t i = 0; i < n; i++)
             windows[l][i] = (float)sin(3.141592653589793 * (double)(2 * i + 1) / (double)(2 * n));
 #ifdef HAVE_FFTW
@@ -275,6 +286,7 @@ static void prepare(void)
 /* Turns to one length. */
 static void turn_to(int l)
 {
+    padded = all_padded[l];
     spectra = all_spectra[l];
     window = windows[l];
 #ifdef HAVE_FFTW
@@ -288,22 +300,18 @@ static void turn_to(int l)
 #endif
 }
 
-/* Runs a contender's batch once and holds its result to that of plain C. */
+/* Runs a contender's batch once and holds its coefficients to those of plain C, or its sound to the recording. */
 static void verify(const struct contender *c, int l)
 {
-    static int16_t expected[LONGEST * 36];
     size_t n = lengths[l], m = n / 2, blocks = batches[l];
     int wrong = 0;
-    memset(tail, 0, sizeof tail);
-    for (size_t b = 0; b < blocks; b++)
-        plain_o3_step_direct(n, tail, spectra + b * m, expected + b * m);
     memset(coefficients, 0x55, sizeof coefficients);
     memset(sound, 0x55, sizeof sound);
     refused = 0;
     c->run(n, blocks);
     for (size_t i = 0; i < blocks * m; i++) {
         long apart = labs((long)coefficients[i] - spectra[i]);
-        long off = labs((long)sound[i] - expected[i]);
+        long off = i < m ? 0 : labs((long)sound[i] - padded[i]);
         switch (c->result) {
         case COEFFICIENTS: wrong |= apart != 0; break;
         case NEAR_COEFFICIENTS: wrong |= apart > 16; break;
@@ -387,16 +395,17 @@ static void time_all(int rounds)
 #endif
 }
 
-/* A recording's cost per block as the recording grows. Long calls are interrupted now and then, so the processor's own time counts here. */
+/* A recording's cost per block, of which it has one more than hops, as it grows. Long calls are interrupted now and then, so the processor's
+ * own time counts here. */
 static void time_recordings(int rounds)
 {
-    static const size_t blocks[] = {1, 4, 16, 64, 256, 1024, 4096};
-    enum { SIZES = sizeof blocks / sizeof blocks[0], CALLS = 3 };
+    static const size_t hops[] = {1, 4, 16, 64, 256, 1024, LONGEST};
+    enum { SIZES = sizeof hops / sizeof hops[0], CALLS = 3 };
     void (*const calls[CALLS])(size_t, size_t) = {library_recording_direct, library_recording_short, library_synthesis};
     const char *const names[CALLS] = {"direct", "short route", "synthesis"};
     printf("\n| a recording, ns per block |");
     for (int s = 0; s < SIZES; s++)
-        printf(" B = %zu |", blocks[s]);
+        printf(" H = %zu |", hops[s]);
     printf("\n|---|");
     for (int s = 0; s < SIZES; s++)
         printf("---:|");
@@ -409,11 +418,11 @@ static void time_recordings(int rounds)
             for (int c = 0; c < CALLS; c++)
                 for (int s = 0; s < SIZES; s++) {
                     /* short recordings are repeated, so that the clock's own cost is small */
-                    size_t repeats = blocks[s] < 512 ? 512 / blocks[s] : 1;
+                    size_t blocks = hops[s] + 1, repeats = blocks < 512 ? 512 / blocks : 1;
                     double start = seconds(CLOCK_THREAD_CPUTIME_ID);
                     for (size_t i = 0; i < repeats; i++)
-                        calls[c](n, blocks[s]);
-                    double spent = (seconds(CLOCK_THREAD_CPUTIME_ID) - start) * 1e9 / (double)(repeats * blocks[s]);
+                        calls[c](n, blocks);
+                    double spent = (seconds(CLOCK_THREAD_CPUTIME_ID) - start) * 1e9 / (double)(repeats * blocks);
                     if (r == 0 || spent < least[c][s])
                         least[c][s] = spent;
                 }
@@ -446,11 +455,6 @@ static void count_all(void)
 
 int main(int argc, char **argv)
 {
-    uint32_t z = 1;
-    for (size_t i = 0; i < sizeof recording / sizeof recording[0]; i++) {
-        z = z * 1664525u + 1013904223u;
-        recording[i] = (int16_t)(z >> 16);
-    }
     plain_o3_init();
     prepare();
     if (argc > 1 && !strcmp(argv[1], "count")) {

@@ -1,7 +1,7 @@
 //! The library held against the reference, call by call.
 use crate::inputs::*;
 use crate::library;
-use crate::reference::{tail_limit, Bank, Route, BLOCKS, COEFFICIENT_LIMIT, LENGTHS, STATE};
+use crate::reference::{tail_limit, Bank, Route, COEFFICIENT_LIMIT, HOPS, LENGTHS, STATE};
 use std::fmt::Debug;
 
 const MARGIN: usize = 40;
@@ -43,7 +43,7 @@ struct Compare {
 
 /// Prints what was handed in and what came back, and ends the program.
 fn mismatch(call: &str, input: &dyn Debug, library: &dyn Debug, reference: &dyn Debug) -> ! {
-    println!("differential: {call} answers otherwise than document 01\n  input:     {input:?}\n  library:   {library:?}\n  reference: {reference:?}");
+    println!("differential: {call} answers otherwise than the documents\n  input:     {input:?}\n  library:   {library:?}\n  reference: {reference:?}");
     std::process::exit(1);
 }
 
@@ -92,19 +92,19 @@ impl Compare {
         self.call("analyse", &(route, n), x, output, library, |bank, x, out| bank.analyse(route, n, x, out))
     }
 
-    fn analyse_recording(&mut self, route: Route, n: usize, blocks: usize, x: &[i16], length: usize) -> (u32, Vec<i32>) {
+    fn analyse_recording(&mut self, route: Route, n: usize, hops: usize, x: &[i16], length: usize) -> (u32, Vec<i32>) {
         let output = self.rubbish32(length);
-        let library = |x: &[i16], out: &mut [i32]| library::analyse_recording(route, n, blocks, x, out);
-        self.call("analyse_recording", &(route, n, blocks), x, output, library, |bank, x, out| {
-            bank.analyse_recording(route, n, blocks, x, out)
+        let library = |x: &[i16], out: &mut [i32]| library::analyse_recording(route, n, hops, x, out);
+        self.call("analyse_recording", &(route, n, hops), x, output, library, |bank, x, out| {
+            bank.analyse_recording(route, n, hops, x, out)
         })
     }
 
-    fn synthesise_recording(&mut self, n: usize, blocks: usize, x: &[i32], length: usize) -> (u32, Vec<i16>) {
+    fn synthesise_recording(&mut self, n: usize, hops: usize, x: &[i32], length: usize) -> (u32, Vec<i16>) {
         let output = self.rubbish16(length);
-        let library = |x: &[i32], out: &mut [i16]| library::synthesise_recording(n, blocks, x, out);
-        self.call("synthesise_recording", &(n, blocks), x, output, library, |bank, x, out| {
-            bank.synthesise_recording(n, blocks, x, out)
+        let library = |x: &[i32], out: &mut [i16]| library::synthesise_recording(n, hops, x, out);
+        self.call("synthesise_recording", &(n, hops), x, output, library, |bank, x, out| {
+            bank.synthesise_recording(n, hops, x, out)
         })
     }
 
@@ -149,11 +149,21 @@ impl Compare {
         }
     }
 
-    fn some_blocks(&mut self, blocks: usize) -> usize {
-        if self.random.one_in(8) {
-            self.random.pick(&[0, blocks + 1, blocks.wrapping_sub(1), BLOCKS + 1, (1 << 32) + blocks, 1 << 62, 1 << 63, usize::MAX])
+    /// The lengths of a recording's samples and coefficients, or others, or each in place of the other.
+    fn some_lengths(&mut self, hops: usize, m: usize) -> (usize, usize) {
+        let (samples, coefficients) = (self.some_length(hops * m), self.some_length((hops + 1) * m));
+        if self.random.one_in(12) {
+            (coefficients, samples)
         } else {
-            blocks
+            (samples, coefficients)
+        }
+    }
+
+    fn some_hops(&mut self, hops: usize) -> usize {
+        if self.random.one_in(8) {
+            self.random.pick(&[0, hops + 1, hops - 1, HOPS + 1, (1 << 32) + hops, 1 << 62, 1 << 63, usize::MAX])
+        } else {
+            hops
         }
     }
 
@@ -291,49 +301,51 @@ impl Compare {
 
     fn recordings(&mut self, n: usize) {
         let m = n / 2;
-        for blocks in [1, 2, 3, 4, 7, 20] {
+        for hops in [1, 2, 3, 4, 7, 20] {
             for _ in 0..40 {
                 for route in ROUTES {
-                    let (wide, long) = (self.some_length((blocks + 1) * m), self.some_length(blocks * m));
+                    let (wide, long) = self.some_lengths(hops, m);
                     let x = samples(&mut self.random, wide);
-                    let (named_n, named) = (self.some_n(n), self.some_blocks(blocks));
+                    let (named_n, named) = (self.some_n(n), self.some_hops(hops));
                     self.analyse_recording(route, named_n, named, &x, long);
                 }
-                let (wide, long) = (self.some_length(blocks * m), self.some_length(blocks * m));
-                let x = self.some_coefficients(wide);
-                let (named_n, named) = (self.some_n(n), self.some_blocks(blocks));
-                self.synthesise_recording(named_n, named, &x, long);
+                let (wide, long) = self.some_lengths(hops, m);
+                let x = self.some_coefficients(long);
+                let (named_n, named) = (self.some_n(n), self.some_hops(hops));
+                self.synthesise_recording(named_n, named, &x, wide);
             }
         }
-        // a coefficient beyond its limit in the last place of all
-        for blocks in [1, 2, 3, 20] {
-            for beyond in BEYOND {
-                let mut x = coefficients(&mut self.random, blocks * m);
-                x[blocks * m - 1] = beyond;
-                self.synthesise_recording(n, blocks, &x, blocks * m);
-            }
-        }
-        // block counts whose products wrap round to the lengths handed in
-        for blocks in [0, 1 << 62, 1 << 63, (1 << 63) + 1, (1 << 62) + 3, usize::MAX] {
-            let (wide, long) = (blocks.wrapping_add(1).wrapping_mul(m), blocks.wrapping_mul(m));
-            if wide < 1000 && long < 1000 {
-                for route in ROUTES {
-                    let x = samples(&mut self.random, wide);
-                    self.analyse_recording(route, n, blocks, &x, long);
+        // a coefficient beyond its limit at either end of the first block and of the last
+        for hops in [1, 2, 3, 20] {
+            for at in [0, m - 1, hops * m, hops * m + m - 1] {
+                for beyond in BEYOND {
+                    let mut x = coefficients(&mut self.random, (hops + 1) * m);
+                    x[at] = beyond;
+                    self.synthesise_recording(n, hops, &x, hops * m);
                 }
-                let x = coefficients(&mut self.random, long);
-                self.synthesise_recording(n, blocks, &x, long);
             }
         }
-        // the longest, and one block more
-        for blocks in [BLOCKS, BLOCKS + 1] {
-            let x = samples(&mut self.random, (blocks + 1) * m);
-            for route in ROUTES {
-                self.analyse_recording(route, n, blocks, &x, blocks * m);
+        // numbers of hops whose products wrap round to the lengths handed in
+        for hops in [0, 1 << 62, 1 << 63, (1 << 63) + 1, (1 << 62) + 3, usize::MAX] {
+            let (wide, long) = (hops.wrapping_mul(m), hops.wrapping_add(1).wrapping_mul(m));
+            if wide < 1000 && long < 1000 {
+                self.both_ways(n, hops, wide, long);
             }
-            let x = coefficients(&mut self.random, blocks * m);
-            self.synthesise_recording(n, blocks, &x, blocks * m);
         }
+        // the longest, and one hop more
+        for hops in [HOPS, HOPS + 1] {
+            self.both_ways(n, hops, hops * m, (hops + 1) * m);
+        }
+    }
+
+    /// A recording of so many samples by each route, and so many coefficients back.
+    fn both_ways(&mut self, n: usize, hops: usize, wide: usize, long: usize) {
+        let x = samples(&mut self.random, wide);
+        for route in ROUTES {
+            self.analyse_recording(route, n, hops, &x, long);
+        }
+        let x = coefficients(&mut self.random, long);
+        self.synthesise_recording(n, hops, &x, wide);
     }
 
     /// Changes of a block's coefficients, each from -q to q. A place turns them all one way at that place of the block.
@@ -353,77 +365,89 @@ impl Compare {
         changed
     }
 
-    /// A recording there and back: block by block with refused steps in between, and by the calls over recordings.
+    /// A recording there and back: block by block with refused steps in between, and by the calls over recordings. The blocks are made here:
+    /// with a hop of zeros put before the recording and one after it, block b covers its hops b - 1 and b.
     fn round_trip(&mut self, n: usize, x: &[i16], q: i64) {
         let m = n / 2;
-        let blocks = x.len() / m - 1;
+        let hops = x.len() / m;
+        let padded = [&vec![0; m], x, &vec![0; m]].concat();
         let kind = self.random.below(4);
-        let target = self.random.below(m);
+        let (target, pushed) = (self.random.below(m), self.random.below(hops));
         let style = self.random.below(3);
         let mut routes = Vec::new();
+        let mut given = Vec::new();
         let mut brought = Vec::new();
-        for b in 0..blocks {
+        for b in 0..=hops {
             let route = if style < 2 { ROUTES[style] } else { self.random.pick(&ROUTES) };
-            let (number, coefficients) = self.analyse(route, n, &x[b * m..b * m + n], m);
+            let (number, coefficients) = self.analyse(route, n, &padded[b * m..b * m + n], m);
             assert_eq!(number, 0);
-            // the hop in the middle is pushed from both of its blocks
-            let place = if b + 1 == (blocks + 1) / 2 { m + target } else { target };
+            // one hop is pushed from both of its blocks
+            let place = if b == pushed { m + target } else { target };
             brought.push(self.changed(n, &coefficients, q, kind, place));
+            given.extend(coefficients);
             routes.push(route);
         }
-        let near = |b: usize, hop: &[i16], how: &str| {
-            let short = routes[b - 1] == Route::Short || routes[b] == Route::Short;
+        let near = |h: usize, hop: &[i16], how: &str| {
+            let short = routes[h] == Route::Short || routes[h + 1] == Route::Short;
             let bound = q + if short { 16 } else { 0 } + 8;
             for i in 0..m {
-                let distance = (i64::from(hop[i]) - i64::from(x[b * m + i])).abs();
+                let distance = (i64::from(hop[i]) - i64::from(x[h * m + i])).abs();
                 if 16 * distance > bound {
-                    let input = (n, q, b, i, x, &routes, &brought);
-                    mismatch(how, &input, &hop[i], &format_args!("{} within {bound}/16", x[b * m + i]));
+                    let input = (n, q, h, i, x, &routes, &brought);
+                    mismatch(how, &input, &hop[i], &format_args!("{} within {bound}/16", x[h * m + i]));
                 }
             }
         };
         let mut state = self.fresh_state(n);
-        for b in 0..blocks {
+        for b in 0..=hops {
             if self.random.one_in(3) {
-                let spoiled = self.random.below(2);
-                let mut x = coefficients(&mut self.random, m);
-                let mut length = m;
-                if spoiled == 0 {
-                    x[0] = self.random.pick(&BEYOND);
-                } else {
-                    length = wrong_length(&mut self.random, m);
-                }
-                let before = state.clone();
-                let (number, _) = self.stream_step(&mut state, &x, length);
-                assert!(number == 3 - spoiled as u32 && state == before);
+                self.refused_step(&mut state, m);
             }
             let (number, hop) = self.stream_step(&mut state, &brought[b], m);
             assert_eq!(number, 0);
             if b > 0 {
-                near(b, &hop, "a list of steps");
+                near(b - 1, &hop, "a list of steps");
             }
         }
-        let all = brought.concat();
-        let (number, sound) = self.synthesise_recording(n, blocks, &all, blocks * m);
-        assert_eq!(number, 0);
-        for b in 1..blocks {
-            near(b, &sound[b * m..b * m + m], "synthesise_recording");
+        if style < 2 {
+            assert_eq!(self.analyse_recording(ROUTES[style], n, hops, x, (hops + 1) * m), (0, given));
         }
+        let (number, sound) = self.synthesise_recording(n, hops, &brought.concat(), hops * m);
+        assert_eq!(number, 0);
+        for h in 0..hops {
+            near(h, &sound[h * m..h * m + m], "synthesise_recording");
+        }
+    }
+
+    fn refused_step(&mut self, state: &mut Vec<i64>, m: usize) {
+        let spoiled = self.random.below(2);
+        let mut x = coefficients(&mut self.random, m);
+        let mut length = m;
+        if spoiled == 0 {
+            x[0] = self.random.pick(&BEYOND);
+        } else {
+            length = wrong_length(&mut self.random, m);
+        }
+        let before = state.clone();
+        let (number, _) = self.stream_step(state, &x, length);
+        assert!(number == 3 - spoiled as u32 && *state == before);
     }
 
     fn round_trips(&mut self, n: usize) {
         let m = n / 2;
-        // an impulse at every place of a joint, with the hops beside it
-        for at in 0..3 * m {
-            for size in [1, -1, 32767, -32768] {
-                let mut x = vec![0; 3 * m];
-                x[at] = size;
-                self.round_trip(n, &x, 7);
+        // an impulse at every place, the first and the last of the recording among them
+        for hops in [1, 3] {
+            for at in 0..hops * m {
+                for size in [1, -1, 32767, -32768] {
+                    let mut x = vec![0; hops * m];
+                    x[at] = size;
+                    self.round_trip(n, &x, 7);
+                }
             }
         }
         let sizes = [0, 1, 7, 8, 9, 15, 16, 23, 24, 40, 100, 1000, 65_536, 10_000_000, 300_000_000];
         for q in sizes {
-            for hops in [2, 3, 4, 12] {
+            for hops in [1, 2, 3, 4, 12] {
                 for _ in 0..5 {
                     let x = samples(&mut self.random, hops * m);
                     self.round_trip(n, &x, q);

@@ -15,7 +15,7 @@ extern "C" {
     ) -> u32;
     fn dapplescree_analyse_recording_direct(
         n: usize,
-        blocks: usize,
+        hops: usize,
         samples: *const i16,
         samples_length: usize,
         coefficients: *mut i32,
@@ -23,7 +23,7 @@ extern "C" {
     ) -> u32;
     fn dapplescree_analyse_recording_short(
         n: usize,
-        blocks: usize,
+        hops: usize,
         samples: *const i16,
         samples_length: usize,
         coefficients: *mut i32,
@@ -31,7 +31,7 @@ extern "C" {
     ) -> u32;
     fn dapplescree_synthesise_recording(
         n: usize,
-        blocks: usize,
+        hops: usize,
         coefficients: *const i32,
         coefficients_length: usize,
         samples: *mut i16,
@@ -57,14 +57,14 @@ pub fn stream_step(state: &mut [i64], x: &[i32], out: &mut [i16]) -> u32 {
     unsafe { dapplescree_stream_step(state.as_mut_ptr(), state.len(), x.as_ptr(), x.len(), out.as_mut_ptr(), out.len()) }
 }
 
-pub fn analyse_recording(route: Route, n: usize, blocks: usize, x: &[i16], out: &mut [i32]) -> u32 {
+pub fn analyse_recording(route: Route, n: usize, hops: usize, x: &[i16], out: &mut [i32]) -> u32 {
     let call = match route {
         Route::Direct => dapplescree_analyse_recording_direct,
         Route::Short => dapplescree_analyse_recording_short,
     };
-    unsafe { call(n, blocks, x.as_ptr(), x.len(), out.as_mut_ptr(), out.len()) }
+    unsafe { call(n, hops, x.as_ptr(), x.len(), out.as_mut_ptr(), out.len()) }
 }
 
-pub fn synthesise_recording(n: usize, blocks: usize, x: &[i32], out: &mut [i16]) -> u32 {
-    unsafe { dapplescree_synthesise_recording(n, blocks, x.as_ptr(), x.len(), out.as_mut_ptr(), out.len()) }
+pub fn synthesise_recording(n: usize, hops: usize, x: &[i32], out: &mut [i16]) -> u32 {
+    unsafe { dapplescree_synthesise_recording(n, hops, x.as_ptr(), x.len(), out.as_mut_ptr(), out.len()) }
 }

@@ -1,4 +1,4 @@
-//! Holds the library against an independent implementation of document 01 (--cfg library), or that implementation against the lines
+//! Holds the library against an independent implementation of the documents (--cfg library), or that implementation against the lines
 //! of vectors/calls.py.
 #[cfg(library)]
 mod compare;

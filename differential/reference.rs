@@ -1,4 +1,4 @@
-//! Document 01 written out anew: exact series, naive sums, floored division. It shares no table with any other file.
+//! Document 01, with P1 of document 02, written out anew: exact series, naive sums, floored division. It shares no table with any other file.
 
 /// A natural number of any size, in base 2^64, lowest digit first.
 #[derive(Clone)]
@@ -102,7 +102,7 @@ pub const LENGTHS: [usize; 4] = [12, 24, 36, 72];
 pub const STORAGE: usize = 36;
 pub const STATE: usize = 1 + STORAGE;
 pub const COEFFICIENT_LIMIT: i32 = 536_870_912;
-pub const BLOCKS: usize = 4096;
+pub const HOPS: usize = 4095;
 
 #[derive(Clone, Copy, Debug, PartialEq)]
 pub enum Route {
@@ -289,34 +289,39 @@ impl Bank {
         0
     }
 
-    pub fn analyse_recording(&self, route: Route, n: usize, blocks: usize, x: &[i16], out: &mut [i32]) -> u32 {
+    /// Block b, b from 0 to hops, covers hops b - 1 and b. What lies outside the recording is 0.
+    pub fn analyse_recording(&self, route: Route, n: usize, hops: usize, x: &[i16], out: &mut [i32]) -> u32 {
         if !tabled(n) {
             return 1;
         }
         let m = n / 2;
-        if blocks < 1 || blocks > BLOCKS || x.len() != (blocks + 1) * m || out.len() != blocks * m {
+        if hops < 1 || hops > HOPS || x.len() != hops * m || out.len() != (hops + 1) * m {
             return 2;
         }
-        for b in 0..blocks {
-            out[b * m..b * m + m].copy_from_slice(&self.coefficients(route, n, &x[b * m..b * m + n]));
+        for b in 0..=hops {
+            let sample = |i: usize| (b * m + i).checked_sub(m).and_then(|at| x.get(at)).copied().unwrap_or(0);
+            let block: Vec<i16> = (0..n).map(sample).collect();
+            out[b * m..b * m + m].copy_from_slice(&self.coefficients(route, n, &block));
         }
         0
     }
 
-    pub fn synthesise_recording(&self, n: usize, blocks: usize, x: &[i32], out: &mut [i16]) -> u32 {
+    pub fn synthesise_recording(&self, n: usize, hops: usize, x: &[i32], out: &mut [i16]) -> u32 {
         if !tabled(n) {
             return 1;
         }
         let m = n / 2;
-        if blocks < 1 || blocks > BLOCKS || x.len() != blocks * m || out.len() != blocks * m {
+        if hops < 1 || hops > HOPS || x.len() != (hops + 1) * m || out.len() != hops * m {
             return 2;
         }
         if beyond(x) {
             return 3;
         }
         let mut tail = vec![0; m];
-        for b in 0..blocks {
-            out[b * m..b * m + m].copy_from_slice(&self.advance(n, &mut tail, &x[b * m..b * m + m]));
+        let mut step = |b: usize| self.advance(n, &mut tail, &x[b * m..b * m + m]);
+        let _run_in = step(0);
+        for h in 0..hops {
+            out[h * m..h * m + m].copy_from_slice(&step(h + 1));
         }
         0
     }

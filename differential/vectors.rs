@@ -55,11 +55,11 @@ fn holds(bank: &Bank, line: &str) -> bool {
             let mut now = before.clone();
             agrees(length, code, out, |b| bank.stream_step(&mut now, &list(x), b)) && now == after(after_state, &before)
         }
-        ["analyse_recording", r, n, blocks, x, length, code, out] => {
-            agrees(length, code, out, |b| bank.analyse_recording(route(r), number(n), number(blocks), &list(x), b))
+        ["analyse_recording", r, n, hops, x, length, code, out] => {
+            agrees(length, code, out, |b| bank.analyse_recording(route(r), number(n), number(hops), &list(x), b))
         }
-        ["synthesise_recording", n, blocks, x, length, code, out] => {
-            agrees(length, code, out, |b| bank.synthesise_recording(number(n), number(blocks), &list(x), b))
+        ["synthesise_recording", n, hops, x, length, code, out] => {
+            agrees(length, code, out, |b| bank.synthesise_recording(number(n), number(hops), &list(x), b))
         }
         _ => false,
     }

@@ -1,4 +1,4 @@
-/* There and back: a recording of four hops is analysed block by block and synthesised again, and the inner hops are held to the recording.
+/* There and back: a recording of four hops is analysed and synthesised again, block by block and whole, and what returns is held to it.
  *
  *   rt staticlib c_face
  *   gcc -O2 -Wall -Wextra -Iinclude examples/there_and_back.c target/staticlib/libc_face.a -o target/there_and_back
@@ -7,29 +7,40 @@
 #include "dapplescree.h"
 #include <stdio.h>
 
-enum { N = 36, M = N / 2, HOPS = 4 };
+enum { N = 36, M = N / 2, HOPS = 4, SAMPLES = HOPS * M, COEFFICIENTS = (HOPS + 1) * M };
+
+static int differing(const int16_t *returned, const int16_t *recording)
+{
+    int count = 0;
+    for (int i = 0; i < SAMPLES; i++)
+        count += returned[i] != recording[i];
+    return count;
+}
 
 int main(void)
 {
-    int16_t recording[HOPS * M], hop[M];
-    int32_t coefficients[M];
+    /* a hop of zeros before the recording and one after it: block b then covers its hops b - 1 and b */
+    int16_t padded[M + SAMPLES + M] = {0}, *recording = padded + M, hops[M + SAMPLES], whole[SAMPLES];
+    int32_t block[M], blocks[COEFFICIENTS];
     int64_t state[DAPPLESCREE_STATE];
-    int differing = 0;
+    uint32_t refused = 0;
 
-    for (int i = 0; i < HOPS * M; i++)
+    for (int i = 0; i < SAMPLES; i++)
         recording[i] = (int16_t)(i * 7919 % 65536 - 32768);
-    if (dapplescree_stream_fresh(N, state, DAPPLESCREE_STATE) != 0)
-        return 1;
-    for (int b = 0; b < HOPS - 1; b++) {
-        if (dapplescree_analyse_direct(N, recording + b * M, N, coefficients, M) != 0)
-            return 1;
-        if (dapplescree_stream_step(state, DAPPLESCREE_STATE, coefficients, M, hop, M) != 0)
-            return 1;
-        /* the first hop is the run-in: one block alone covers it */
-        for (int i = 0; b > 0 && i < M; i++)
-            differing += hop[i] != recording[b * M + i];
+
+    refused |= dapplescree_stream_fresh(N, state, DAPPLESCREE_STATE);
+    for (int b = 0; b <= HOPS; b++) {
+        refused |= dapplescree_analyse_direct(N, padded + b * M, N, block, M);
+        refused |= dapplescree_stream_step(state, DAPPLESCREE_STATE, block, M, hops + b * M, M);
     }
-    printf("%d inner samples, %d differ\n", (HOPS - 2) * M, differing);
-    printf("N = 11 gives %u\n", dapplescree_analyse_direct(11, recording, N, coefficients, M));
-    return differing != 0;
+    refused |= dapplescree_analyse_recording_direct(N, HOPS, recording, SAMPLES, blocks, COEFFICIENTS);
+    refused |= dapplescree_synthesise_recording(N, HOPS, blocks, COEFFICIENTS, whole, SAMPLES);
+    if (refused)
+        return 1;
+
+    /* the first hop of a stream is the run-in; the calls over a recording drop it */
+    int by_block = differing(hops + M, recording), by_recording = differing(whole, recording);
+    printf("%d samples: %d differ block by block, %d by the calls over a recording\n", SAMPLES, by_block, by_recording);
+    printf("N = 11 gives %u\n", dapplescree_analyse_direct(11, padded, N, block, M));
+    return by_block || by_recording;
 }

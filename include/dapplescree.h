@@ -2,12 +2,14 @@
  *
  * Link target/staticlib/libc_face.a (`rt staticlib c_face`). N is the block length: 12, 24, 36 or 72, the tabled lengths. M = N/2 is a hop.
  * A sample is an int16_t. A coefficient is an int32_t counted in units of 1/64. y, S, X, U, V, rnd, W and K below are those of document 01.
+ * A recording has one hop of zeros put before it and one after it: of H hops it has H + 1 blocks, and block b, b from 0 to H, covers its hops
+ * b - 1 and b, those outside it being zeros.
  *
  * Each call returns a number:
  *
  *   0  taken
  *   1  n is not tabled
- *   2  a length differs from the stated one, or blocks is not 1 to 4096
+ *   2  a length differs from the stated one, or hops is not 1 to 4095
  *   3  a coefficient is below -536870912 or above 536870912
  *   4  the state's entry 0 is not tabled, or one of its first M tail entries lies beyond plus or minus M * 2^55
  *
@@ -69,36 +71,41 @@ uint32_t dapplescree_stream_fresh(size_t n, int64_t *state, size_t state_length)
  *      storage from M on are kept
  * A state that was made by dapplescree_stream_fresh and changed by this call alone is never refused with 4. The first hop of a fresh stream is
  * the run-in. Where the steps taken on one stream, from a fresh one, bring the blocks of a recording in their order, as analysis gave them or
- * with each coefficient changed by at most Q, the hop of block b, b at least 1, is the recording's hop b, each sample within (Q + 8) / 16
+ * with each coefficient changed by at most Q, the hop of block b, b at least 1, is the recording's hop b - 1, each sample within (Q + 8) / 16
  * of it, rounded down, so equal up to Q = 7; Q + 16 stands for Q where block b - 1 or b was analysed by the short route. Refused steps
- * in between change nothing.
+ * in between change nothing. A caller who analyses block by block hands in zeros for the hop before the recording and for the one after it;
+ * how many blocks a stream takes has no limit.
  */
 uint32_t dapplescree_stream_step(int64_t *state, size_t state_length, const int32_t *coefficients, size_t coefficients_length, int16_t *hop,
                                  size_t hop_length);
 
-/* A whole recording, each block analysed directly. Block b covers hops b and b + 1.
+/* A whole recording of `hops` hops, each block analysed directly.
  *   1  n is not tabled
- *   2  blocks is not 1 to 4096, samples_length is not (blocks + 1) * M, or coefficients_length is not blocks * M
- *   0  coefficients[b * M + k] is coefficient k that dapplescree_analyse_direct gives for samples[b * M] .. samples[b * M + N - 1]
+ *   2  hops is not 1 to 4095, samples_length is not hops * M, or coefficients_length is not (hops + 1) * M
+ *   0  coefficients[b * M + k] is coefficient k that dapplescree_analyse_direct gives for block b, b from 0 to hops: the samples from
+ *      samples[(b - 1) * M] to samples[(b + 1) * M - 1], with 0 for each that lies outside
  */
-uint32_t dapplescree_analyse_recording_direct(size_t n, size_t blocks, const int16_t *samples, size_t samples_length,
+uint32_t dapplescree_analyse_recording_direct(size_t n, size_t hops, const int16_t *samples, size_t samples_length,
     int32_t *coefficients, size_t coefficients_length);
 
 /* A whole recording, each block analysed by the short route.
  *   1, 2  as above
  *   0  the same, with dapplescree_analyse_short
  */
-uint32_t dapplescree_analyse_recording_short(size_t n, size_t blocks, const int16_t *samples, size_t samples_length,
+uint32_t dapplescree_analyse_recording_short(size_t n, size_t hops, const int16_t *samples, size_t samples_length,
     int32_t *coefficients, size_t coefficients_length);
 
-/* Synthesis of a whole recording.
+/* Synthesis of a whole recording of `hops` hops.
  *   1  n is not tabled
- *   2  blocks is not 1 to 4096, coefficients_length is not blocks * M, or samples_length is not blocks * M
+ *   2  hops is not 1 to 4095, coefficients_length is not (hops + 1) * M, or samples_length is not hops * M
  *   3  a coefficient is beyond its limit, in whichever block
- *   0  samples[b * M + i] is hop sample i of step b, the steps taken from a fresh stream with coefficients[b * M] .. coefficients[b * M + M - 1]
- * The inner samples are those from place M on; their distance from the recording is that of the steps above.
+ *   0  samples[h * M + i] is hop sample i of step h + 1, h below hops, where step b, b from 0 to hops, is taken from a fresh stream on with
+ *      coefficients[b * M] .. coefficients[b * M + M - 1]; the run-in, the hop of step 0, is dropped
+ * Where the coefficients are as analysis gave them for the recording's blocks, by these calls or block by block, each changed by at most Q,
+ * every sample is within (Q + 8) / 16 of the recording's at the same place, rounded down, so equal up to Q = 7; Q + 16 stands for Q where one
+ * of the two blocks that cover it was analysed by the short route.
  */
-uint32_t dapplescree_synthesise_recording(size_t n, size_t blocks, const int32_t *coefficients, size_t coefficients_length,
+uint32_t dapplescree_synthesise_recording(size_t n, size_t hops, const int32_t *coefficients, size_t coefficients_length,
     int16_t *samples, size_t samples_length);
 
 #ifdef __cplusplus

@@ -1,4 +1,4 @@
-"""Document 01 in exact whole numbers, as plainly as it is written: the source of every stored output.
+"""Document 01, with P1 of document 02, in exact whole numbers, as plainly as they are written: the source of every stored output.
 It shares no table, folding or rounding with the crates."""
 from fractions import Fraction
 from functools import cache
@@ -105,11 +105,30 @@ def next_hop(N, tail, X):
     return [clamp(rnd(tail[n] + v[n], N * 2**30)) for n in range(M)], v[M:]
 
 
+# Whole recordings. x is a recording's H × M samples.
+
+
+def blocks(N, x):
+    """Its H + 1 blocks. With a hop of zeros put before it and one after it, block b covers its hops b - 1 and b."""
+    silence = [0] * (N // 2)
+    padded = silence + x + silence
+    return [padded[at : at + N] for at in range(0, len(x) + 1, N // 2)]
+
+
+def hops(N, spectra):
+    """The hops that come back from the coefficients of its blocks, stepped from a fresh stream. The run-in, that of block 0, is dropped."""
+    returned, tail = [], [0] * (N // 2)
+    for X in spectra:
+        hop, tail = next_hop(N, tail, X)
+        returned.append(hop)
+    return returned[1:]
+
+
 # The calls. Each gives its number and what it writes; None: every buffer and stream is left as it was.
 # A stream is N and the STORAGE entries of its tail. A buffer that is only written stands as its length.
 
 COEFFICIENT_LIMIT = 536870912
-BLOCKS = 4096
+HOPS = 4095
 
 
 def tail_limit(N):
@@ -147,35 +166,31 @@ def step(stream, X, length):
     return 0, hop, (N, new + tail[N // 2 :])
 
 
-def analyse_recording(route, N, B, x, length):
+def analyse_recording(route, N, H, x, length):
     if N not in LENGTHS:
         return 1, None
     M = N // 2
-    if not 1 <= B <= BLOCKS or len(x) != (B + 1) * M or length != B * M:
+    if not 1 <= H <= HOPS or len(x) != H * M or length != (H + 1) * M:
         return 2, None
-    return 0, [c for b in range(B) for c in ROUTES[route](N, x[b * M : b * M + N])]
+    return 0, [c for block in blocks(N, x) for c in ROUTES[route](N, block)]
 
 
-def synthesise_recording(N, B, X, length):
+def synthesise_recording(N, H, X, length):
     if N not in LENGTHS:
         return 1, None
     M = N // 2
-    if not 1 <= B <= BLOCKS or len(X) != B * M or length != B * M:
+    if not 1 <= H <= HOPS or len(X) != (H + 1) * M or length != H * M:
         return 2, None
     if beyond(X):
         return 3, None
-    out, tail = [], [0] * M
-    for b in range(B):
-        hop, tail = next_hop(N, tail, X[b * M : b * M + M])
-        out += hop
-    return 0, out
+    return 0, [s for hop in hops(N, [X[at : at + M] for at in range(0, len(X), M)]) for s in hop]
 
 
-def inner(N, B, out):
-    """The part of out as its place and its entries."""
-    if N not in LENGTHS or not 1 <= B <= BLOCKS or len(out) != B * (N // 2):
-        return 0, []
-    return N // 2, out[N // 2 :]
+def inner(N, H, out):
+    """The part of out, which lies at its start: the whole of it, or the empty one."""
+    if N not in LENGTHS or not 1 <= H <= HOPS or len(out) != H * (N // 2):
+        return []
+    return out
 
 
 # The calls of include/dapplescree.h over a state, N and then the tail. A state is returned as it then stands.
@@ -236,9 +251,6 @@ def listing(data):
         samples += hop
     if rest:
         return refused(5, len(lines) + 1)
-    rows, tail = [["hop"] + [f"s{n}" for n in range(M)]], [0] * M
-    for b in range(len(samples) // M - 1):
-        hop, tail = next_hop(N, tail, direct(N, samples[b * M : b * M + N]))
-        if b > 0:
-            rows.append([b] + hop)
+    rows = [["hop"] + [f"s{n}" for n in range(M)]]
+    rows += [[h] + hop for h, hop in enumerate(hops(N, [direct(N, block) for block in blocks(N, samples)]))]
     return "".join(",".join(str(f) for f in row) + "\n" for row in rows).encode()

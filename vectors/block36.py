@@ -98,7 +98,10 @@ text(RIGHT, 48, "N = 36,   M = N/2 = 18,   d = 72/N = 2", 18, "end")
 
 # the two hops and the window
 top, base = 132, 252
-for a, fill, deep, words in ((0, FIRST, DEEP_FIRST, "hop b"), (M, SECOND, DEEP_SECOND, "hop b + 1")):
+for a, fill, deep, words in (
+    (0, FIRST, DEEP_FIRST, "hop b − 1 (before the first: zeros)"),
+    (M, SECOND, DEEP_SECOND, "hop b (after the last: zeros)"),
+):
     rect(left(a), 68, M * CELL, 28, fill)
     text(left(a) + M * CELL / 2, 88, words, 17, fill=deep, weight="bold")
 
@@ -204,8 +207,8 @@ row = box + 48
 cells(row, 30, range(M), range(M), SOUND)
 cells(row, 30, range(M, N), tail, TAIL, 14)
 label(row + 20, "handed back")
-text(left(h), row + 50, "the samples of hop b", 16, fill=DEEP_SOUND, weight="bold")
-text(left(3 * h), row + 50, "the tail that the next step adds to, for hop b + 1", 16, fill=DEEP_TAIL, weight="bold")
+text(left(h), row + 50, "the samples of hop b − 1", 16, fill=DEEP_SOUND, weight="bold")
+text(left(3 * h), row + 50, "the tail that the next step adds to, for hop b", 16, fill=DEEP_TAIL, weight="bold")
 
 # the legend, and why the mirrored samples vanish
 row += 86
@@ -244,7 +247,7 @@ for i, name, words in (
 text(SECOND_COLUMN, row, "Why the mirrored samples vanish", 16, "start", weight="bold")
 for i, words in enumerate(
     (
-        "In hop b, block b brings y(n) − y(17 − n), and block b − 1 brings its",
+        "In hop b − 1, block b brings y(n) − y(17 − n), and block b − 1 brings its",
         "y(18 + n) + y(35 − n). Both are windowed again and added. The mirrored sample,",
         "17 − n of the hop, then has the factors − W(n) × W(17 − n) and + W(n) × W(17 − n)",
         "and is gone. Sample n itself has the factor W(n)² + W(17 − n)², which is 2⁵² up to",

@@ -4,7 +4,7 @@ import random
 import sys
 
 import bank
-from bank import BLOCKS, COEFFICIENT_LIMIT, LENGTHS, ROUTES, STATE, STORAGE, tail_limit
+from bank import COEFFICIENT_LIMIT, HOPS, LENGTHS, ROUTES, STATE, STORAGE, tail_limit
 
 rounds = int(sys.argv[1]) if len(sys.argv) > 1 else 25
 rng = random.Random(int(sys.argv[2]) if len(sys.argv) > 2 else 1)
@@ -41,6 +41,16 @@ def spoil(x):
 
 def near(length):
     return max(0, rng.choice([length] * 8 + [length - 1, length + 1, 0, 2 * length]))
+
+
+def lengths(H, M):
+    """Those of the samples and of the coefficients of H hops, or others, or each in place of the other."""
+    pair = [near(H * M), near((H + 1) * M)]
+    return pair[::-1] if rng.randrange(12) == 0 else pair
+
+
+def near_hops(H):
+    return rng.choice([H] * 24 + [0, H + 1, H - 1, HOPS + 1, 2**32 + H, 2**63, 2**63 + H, 2**64 - 1])
 
 
 def state(N):
@@ -82,9 +92,9 @@ for _ in range(rounds):
         for route in ROUTES:
             x, length = samples(near(N)), near(M)
             line("analyse", route, n, x, length, *bank.analyse(route, n, x, length))
-            B = rng.choice([1, 2, 3, 5])
-            x, length = samples(near((B + 1) * M)), near(B * M)
-            named = rng.choice([B] * 9 + [0, B + 1, BLOCKS + 1, 2**63, 2**64 - 1])
+            H = rng.choice([1, 2, 3, 5])
+            count, length = lengths(H, M)
+            x, named = samples(count), near_hops(H)
             line("analyse_recording", route, n, named, x, length, *bank.analyse_recording(route, n, named, x, length))
         for _ in range(4):
             before, x, length = state(N), coefficients(near(M)), near(M)
@@ -99,9 +109,9 @@ for _ in range(rounds):
             number, hop, after = bank.stream_step(now, x, length)
             line("stream_step", now, x, length, number, hop, after)
             now = after
-        B = rng.choice([1, 2, 3, 5])
-        x, length = coefficients(near(B * M)), near(B * M)
+        H = rng.choice([1, 2, 3, 5])
+        length, count = lengths(H, M)
+        x, named = coefficients(count), near_hops(H)
         if rng.randrange(6) == 0:
             spoil(x)
-        named = rng.choice([B] * 9 + [0, B + 1, BLOCKS + 1, 2**63, 2**64 - 1])
         line("synthesise_recording", n, named, x, length, *bank.synthesise_recording(n, named, x, length))

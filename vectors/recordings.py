@@ -3,7 +3,7 @@ from functools import cache
 from operator import mul
 
 import bank
-from bank import BLOCKS, LENGTHS, ROUTES, analyse_recording, inner, synthesise_recording
+from bank import HOPS, LENGTHS, ROUTES, analyse_recording, inner, synthesise_recording
 
 SMALL = 160
 MARK = 12345
@@ -38,7 +38,7 @@ def quick_U(N, X):
 
 
 def quicken():
-    """Has bank's calls sum over lists and round without fractions: 4,096 blocks then take seconds, not minutes."""
+    """Has bank's calls sum over lists and round without fractions: thousands of blocks then take seconds, not minutes."""
     for b in (2, 2**18, 2**26, 2**28, 2**29, 12 * 2**30, 72 * 2**30):
         for a in range(-9, 10):
             assert all(nearest(a * b // 2 + i, b) == bank.rnd(a * b // 2 + i, b) for i in (-1, 0, 1))
@@ -88,48 +88,48 @@ def shown(entries):
     return [len(entries), sum(map(mul, positive, weights(len(entries)))) % 2**32]
 
 
-def analysed(route, N, B, x, out):
-    number, written = analyse_recording(route, N, B, x, len(out))
+def analysed(route, N, H, x, out):
+    number, written = analyse_recording(route, N, H, x, len(out))
     out = out if written is None else written
-    line(route, N, B, len(x), number, *shown(out))
+    line(route, N, H, len(x), number, *shown(out))
     return out
 
 
-def synthesised(N, B, c, out):
-    number, written = synthesise_recording(N, B, c, len(out))
+def synthesised(N, H, c, out):
+    number, written = synthesise_recording(N, H, c, len(out))
     out = out if written is None else written
-    line("synthesis", N, B, len(c), number, *shown(out))
+    line("synthesis", N, H, len(c), number, *shown(out))
     return out
 
 
-def viewed(N, B, out):
-    part = inner(N, B, out)[1]
-    line("inner", N, B, len(part), *shown(part))
+def viewed(N, H, out):
+    part = inner(N, H, out)
+    line("inner", N, H, len(part), *shown(part))
 
 
-def compared(N, B, later, out):
-    part = inner(N, B, out)[1]
-    count = sum(v != w for v, w in zip(part, later))
-    line(*(("differ", count) if count else ("same",)))
+def back(N, H, x, c):
+    out = synthesised(N, H, c, [MARK] * len(x))
+    part = inner(N, H, out)
+    line("differ", sum(v != w for v, w in zip(part, x)) if len(part) == len(x) else len(x))
+    viewed(N, H, out)
 
 
-def back(N, B, later, c, out):
-    """What is there afterwards has marks from the second hop on: what the next call writes is seen."""
-    out = synthesised(N, B, c, out)
-    compared(N, B, later, out)
-    viewed(N, B, out)
-    return out[: N // 2] + [MARK] * (len(out) - N // 2)
-
-
-def recorded(route, N, B, span):
-    M = N // 2
-    x, out = noise(B * M + M, N + B, span), [MARK] * (B * M)
-    c = analysed(route, N, B, x, [MARK] * (B * M))
-    out = back(N, B, x[M:], c, out)
+def recorded(route, N, H, x):
+    c = analysed(route, N, H, x, [MARK] * ((H + 1) * (N // 2)))
+    back(N, H, x, c)
     for seed, span in ((3, 7), (4, 5000)):
         c = change(c, seed, span)
-        out = back(N, B, x[M:], c, out)
-    back(N, B, x[M:], c[:-1] + [ABOVE] * (B > 0), out)
+        back(N, H, x, c)
+    back(N, H, x, c[:-1] + [ABOVE])
+
+
+def noisy(route, N, H, span):
+    recorded(route, N, H, noise(H * (N // 2), N + H, span))
+
+
+def clicked(route, N, H):
+    """Silence but for a click in the first sample and one in the last."""
+    recorded(route, N, H, [32767] + [0] * (H * (N // 2) - 2) + [-32768])
 
 
 def put(at, v):
@@ -137,71 +137,48 @@ def put(at, v):
     return c[:at] + [v] + c[at + 1 :]
 
 
-def both(N, B, l, m):
+def every(N, H, l, m):
+    """Every call on l samples and m coefficients, these in range and with one that is not."""
+    x = noise(l, 5, 32768)
     for route in ROUTES:
-        analysed(route, N, B, noise(SMALL, 5, 32768)[:l], [MARK] * m)
-
-
-def play(N, B, c, l, m):
-    synthesised(N, B, c[:l], [MARK] * m)
-
-
-def part(N, B, l):
-    viewed(N, B, noise(SMALL, 5, 32768)[:l])
-
-
-def wrong_lengths(N, B, l, m):
-    for a, b in ((l - 1, m), (l + 1, m), (0, m), (l, m - 1), (l, m + 1), (l, 0)):
-        both(N, B, a, b)
-    for a, b in ((l - 1, m - 1), (l + 1, m + 1), (0, 0), (m, l), (l, l), (m, m)):
-        both(N, B, a, b)
+        analysed(route, N, H, x, [MARK] * m)
     for v in (1, BELOW):
-        for a, b in ((m - 1, m), (m + 1, m), (0, m), (m, m - 1), (m, m + 1), (m, 0)):
-            play(N, B, put(0, v), a, b)
-        for a in (m - 1, m + 1, 0):
-            play(N, B, put(0, v), a, a)
-    for a in (m - 1, m + 1, 0, m):
-        part(N, B, a)
+        synthesised(N, H, put(0, v)[:m], [MARK] * l)
+    viewed(N, H, x)
+
+
+def lengths(N, H, l, m):
+    """Lengths that are one off, none, or one in place of the other; the stated ones last."""
+    for a, b in ((l - 1, m), (l + 1, m), (0, m), (l, m - 1), (l, m + 1), (l, 0)):
+        every(N, H, a, b)
+    for a, b in ((l - 1, m - 1), (l + 1, m + 1), (0, 0), (m, l), (l, l), (m, m), (l, m)):
+        every(N, H, a, b)
 
 
 def wrong_counts(N, M):
-    for B in (0, BLOCKS + 1, 2**63, ENDLESS):
-        for a, b in ((2 * M, M), (3 * M, 2 * M), (M, 0), (0, 0)):
-            both(N, B, a, b)
-        for v, a, b in ((1, M, M), (ABOVE, M, M), (1, 2 * M, M), (1, 0, 0)):
-            play(N, B, put(0, v), a, b)
-        for a in (M, 2 * M, 0):
-            part(N, B, a)
-
-
-def limit(N, m, at, v):
-    for a, b in ((m, m), (m, m - 1), (m - 1, m)):
-        play(N, 2, put(at, v), a, b)
-
-
-def named(N):
-    for length in LENGTHS:
-        both(N, 2, 3 * (length // 2), length)
-    for length in LENGTHS:
-        play(N, 2, put(0, 1), length, length)
+    for H in (0, HOPS + 1, 2**32 + 1, 2**63, 2**63 + 1, ENDLESS):
+        for l, m in ((M, 2 * M), (0, M), (0, 0)):
+            every(N, H, l, m)
 
 
 quicken()
 for N in LENGTHS:
     M = N // 2
     for route in ROUTES:
-        for B, span in ((1, 32768), (2, 32768), (3, 32768), (1, 1), (2, 100), (3, 1), (2, 0), (3, 0)):
-            recorded(route, N, B, span)
-        for B in (BLOCKS, 0, BLOCKS + 1):
-            recorded(route, N, B, 32768)
-    for B in (1, 2, 3):
-        wrong_lengths(N, B, (B + 1) * M, B * M)
+        for H, span in ((1, 32768), (2, 32768), (3, 32768), (1, 1), (2, 100), (1, 0), (3, 0)):
+            noisy(route, N, H, span)
+        for H in (1, 2, 3, HOPS):
+            clicked(route, N, H)
+        for H in (HOPS, 0, HOPS + 1):
+            noisy(route, N, H, 32768)
+    for H in (1, 2):
+        lengths(N, H, H * M, (H + 1) * M)
     wrong_counts(N, M)
     for v in (MOST, ABOVE, LEAST, BELOW, 2**31 - 1, -(2**31)):
-        for at in (0, M, 2 * M - 1, 2 * M):
-            limit(N, 2 * M, at, v)
+        for at in (0, M - 1, M, 2 * M, 3 * M - 1, 3 * M):
+            synthesised(N, 2, put(at, v)[: 3 * M], [MARK] * (2 * M))
 for N, M in ((0, 0), (11, 5), (48, 24), (ENDLESS, 36)):
-    named(N)
-    wrong_lengths(N, 2, 3 * M + 1, 2 * M + 1)
+    for length in LENGTHS:
+        every(N, 2, length, 3 * (length // 2))
+    lengths(N, 2, 2 * M + 1, 3 * M + 1)
     wrong_counts(N, M)
-    limit(N, 2 * M + 1, 0, ABOVE)

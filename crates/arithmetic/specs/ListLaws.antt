@@ -9,7 +9,7 @@ use native.Mathlib.Omega.{arith}
 use native.Mathlib.Decide.{decLt}
 use lib.IntN.{ℤ, pos}
 use lib.ListN.{length-drop, take, length, set, drop, getD, length-append, List·getD-append, drop-of-length-le, length-set}
-use lib.Seq.{length-take-le, getD-take, getD-drop, getD-append-add, set-at, drop-cons, append-snoc, getD-at}
+use lib.Seq.{length-take-le, getD-take, getD-drop, getD-append-add, set-at, drop-cons, append-snoc, getD-at, ext-getD}
 use Rattle.arithmetic.specs.Lists.{at, Small, table}
 
 module _ {A : Type 0} (f : ℕ → A) where
@@ -41,6 +41,12 @@ pub table-ext : {A : Type 0} (m : ℕ) (f g : ℕ → A) → ((i : ℕ) → i < 
 unfolding table
 table-ext zero f g h = refl
 table-ext (suc m) f g h = rw (table-ext m f g (λ i p. h i (omega arith)), h m (le-refl (suc m)))
+
+-- a list is the table of its entries
+pub table-at : (xs : List ℤ) (m : ℕ) → length xs ≡ m → table m (at xs) ≡ xs
+table-at xs m e =
+    ext-getD (pos 0) (table m (at xs)) xs (length-table (at xs) m ∙ sym e)
+    (λ i h. getD-table (at xs) (pos 0) m i (omega (arith, length-table (at xs) m)))
 
 -- the first k entries of out are f 0 .. f (k - 1), and the rest is as it was in out₀
 pub record Filled {A : Type 0} (f : ℕ → A) (k : ℕ) (out out₀ : List A) : Type 0 where

@@ -9,10 +9,8 @@ use borrow.Author.Tests.{eq-eqb, ne-eqb}
 use borrow.Rule.Slice.PartMut.{putMid}
 use lib.Dec.{eqb}
 use lib.ListN.{length, length-drop, take, drop, set, replicate, drop-of-length-le, take-append-drop}
-use lib.Seq.{ext-getD}
 use lib.IntN.{ℤ, pos}
-use Rattle.arithmetic.specs.Lists.{at, table}
-use Rattle.arithmetic.specs.ListLaws.{length-table, getD-table}
+use Rattle.arithmetic.specs.Lists.{at}
 use Rattle.cosine.specs.Kernels.{tabled}
 use Rattle.stream.specs.Synthesis as Stream
 use Rattle.stream.specs.Steps.{next}
@@ -21,12 +19,6 @@ use Rattle.checks.specs.CauseLaws.{first-is, leaves}
 use Rattle.stream_calls.specs.Streams as S
 use Rattle.stream_calls.specs.StreamLaws.{place-code, place-out}
 use Rattle.c_face.specs.Face.{entries, lengthIn, streamIn, freshCauses, freshCode, freshState, stepCauses, stepCode, stepState, stepOut}
-
--- a list is the table of its entries
-pub table-at : (xs : List ℤ) (m : ℕ) → length xs ≡ m → table m (at xs) ≡ xs
-table-at xs m e =
-    ext-getD (pos 0) (table m (at xs)) xs (length-table (at xs) m ∙ sym e)
-    (λ i h. getD-table (at xs) (pos 0) m i (omega (arith, length-table (at xs) m)))
 
 -- ys written behind entry 0
 pub put-rest : (xs ys : List ℤ) → putMid 1 (length xs - 1) xs ys ≡ take 1 xs ++ ys

@@ -99,40 +99,40 @@ pub extern "C" fn dapplescree_stream_step(
 #[no_mangle]
 pub extern "C" fn dapplescree_analyse_recording_direct(
     n: usize,
-    blocks: usize,
+    hops: usize,
     samples: &[i16],
     coefficients: &mut [i32],
 ) -> u32
-    ensures { λ r. ⌜ r ≡ recordedCode Direct n blocks (now (samples .entry)) (now (coefficients .entry)) ⌝ }
-    ensures { λ _. ⌜ now (coefficients .exit) ≡ recordedOut Direct n blocks (now (samples .entry)) (now (coefficients .entry)) ⌝ }
+    ensures { λ r. ⌜ r ≡ recordedCode Direct n hops (now (samples .entry)) (now (coefficients .entry)) ⌝ }
+    ensures { λ _. ⌜ now (coefficients .exit) ≡ recordedOut Direct n hops (now (samples .entry)) (now (coefficients .entry)) ⌝ }
 {
-    filter_bank::analyse_recording(Route::Direct, n, blocks, samples, coefficients)
+    filter_bank::analyse_recording(Route::Direct, n, hops, samples, coefficients)
 }
 
 // A whole recording by the short route.
 #[no_mangle]
 pub extern "C" fn dapplescree_analyse_recording_short(
     n: usize,
-    blocks: usize,
+    hops: usize,
     samples: &[i16],
     coefficients: &mut [i32],
 ) -> u32
-    ensures { λ r. ⌜ r ≡ recordedCode Short n blocks (now (samples .entry)) (now (coefficients .entry)) ⌝ }
-    ensures { λ _. ⌜ now (coefficients .exit) ≡ recordedOut Short n blocks (now (samples .entry)) (now (coefficients .entry)) ⌝ }
+    ensures { λ r. ⌜ r ≡ recordedCode Short n hops (now (samples .entry)) (now (coefficients .entry)) ⌝ }
+    ensures { λ _. ⌜ now (coefficients .exit) ≡ recordedOut Short n hops (now (samples .entry)) (now (coefficients .entry)) ⌝ }
 {
-    filter_bank::analyse_recording(Route::Short, n, blocks, samples, coefficients)
+    filter_bank::analyse_recording(Route::Short, n, hops, samples, coefficients)
 }
 
 // A whole recording's samples: `filter_bank::synthesise_recording`.
 #[no_mangle]
 pub extern "C" fn dapplescree_synthesise_recording(
     n: usize,
-    blocks: usize,
+    hops: usize,
     coefficients: &[i32],
     samples: &mut [i16],
 ) -> u32
-    ensures { λ r. ⌜ r ≡ playedCode n blocks (now (coefficients .entry)) (now (samples .entry)) ⌝ }
-    ensures { λ _. ⌜ now (samples .exit) ≡ playedOut n blocks (now (coefficients .entry)) (now (samples .entry)) ⌝ }
+    ensures { λ r. ⌜ r ≡ playedCode n hops (now (coefficients .entry)) (now (samples .entry)) ⌝ }
+    ensures { λ _. ⌜ now (samples .exit) ≡ playedOut n hops (now (coefficients .entry)) (now (samples .entry)) ⌝ }
 {
-    filter_bank::synthesise_recording(n, blocks, coefficients, samples)
+    filter_bank::synthesise_recording(n, hops, coefficients, samples)
 }

@@ -273,7 +273,7 @@ fn hops_refused() {
     hop_refused(b"x");
 }
 
-// Listings that are taken: fewer than three hops, and a few more.
+// Listings that are taken, of none to five hops.
 fn short(first: &[u8], m: usize)
     requires { ⌜ m ≤ 36 ⌝ }
 {

@@ -4,14 +4,14 @@ ghost use Prim.Native.Nat.{_≤_, _<_, _^_};
 ghost use lib.ListN.{length};
 use analysis::Route;
 
-// Room for a recording of 4,097 blocks of the longest length, one more than are taken.
-const ROOM: usize = 147528;
+// The most hops of a recording.
+const HOPS: usize = 4095;
 
-// Room for a few blocks of the longest length and for buffers that are too long.
+// Room for the coefficients of 4,096 hops of the longest length, one more than are taken.
+const ROOM: usize = 147492;
+
+// Room for a few hops of the longest length and for buffers that are too long.
 const SMALL: usize = 160;
-
-// The most blocks of a recording.
-const BLOCKS: usize = 4096;
 
 // What a buffer holds before a call.
 const MARK: i16 = 12345;
@@ -58,45 +58,37 @@ fn show_route(route: Route) {
 }
 
 // One call each: what it was handed, its number, and the buffer afterwards.
-fn analysed(route: Route, n: usize, blocks: usize, x: &[i16], out: &mut [i32]) {
+fn analysed(route: Route, n: usize, hops: usize, x: &[i16], out: &mut [i32]) {
     show_route(route);
     report::count(n);
-    report::count(blocks);
+    report::count(hops);
     report::count(x.len());
-    let code = filter_bank::analyse_recording(route, n, blocks, x, out);
+    let code = filter_bank::analyse_recording(route, n, hops, x, out);
     report::count(code as usize);
     report::coefficients(out);
 }
 
-fn synthesised(n: usize, blocks: usize, c: &[i32], out: &mut [i16]) {
+fn synthesised(n: usize, hops: usize, c: &[i32], out: &mut [i16]) {
     report::word(b"synthesis");
     report::count(n);
-    report::count(blocks);
+    report::count(hops);
     report::count(c.len());
-    let code = filter_bank::synthesise_recording(n, blocks, c, out);
+    let code = filter_bank::synthesise_recording(n, hops, c, out);
     report::count(code as usize);
     report::samples(out);
 }
 
 // The inner part of a buffer.
-fn viewed(n: usize, blocks: usize, out: &[i16]) {
+fn viewed(n: usize, hops: usize, out: &[i16]) {
     report::word(b"inner");
     report::count(n);
-    report::count(blocks);
-    let part = filter_bank::inner(n, blocks, out);
+    report::count(hops);
+    let part = filter_bank::inner(n, hops, out);
     report::count(part.len());
     report::samples(part);
 }
 
-// The sample at a place, and past the end a number that no sample is.
-fn entry(x: &[i16], i: usize) -> i64 {
-    if i < x.len() {
-        return x[i] as i64;
-    }
-    32768
-}
-
-fn unlike(v: i64, w: i64) -> usize
+fn unlike(v: i16, w: i16) -> usize
     ensures { λ r. ⌜ r ≤ 1 ⌝ }
 {
     if v == w {
@@ -105,41 +97,39 @@ fn unlike(v: i64, w: i64) -> usize
     1
 }
 
-// How many samples of a part are not those of the recording at the same places.
-fn differing(part: &[i16], later: &[i16]) -> usize {
+// How many samples of a recording did not come back: all of them where the part has another length.
+fn differing(part: &[i16], x: &[i16]) -> usize {
+    if part.len() != x.len() {
+        return x.len();
+    }
     let mut count = 0;
-    for i in 0..part.len() {
-        count += unlike(part[i] as i64, entry(later, i));
+    for i in 0..x.len() {
+        count += unlike(part[i], x[i]);
     }
     count
 }
 
-// The inner part against the recording from its second hop on.
-fn compared(n: usize, blocks: usize, later: &[i16], out: &[i16]) {
-    let part = filter_bank::inner(n, blocks, out);
-    let count = differing(part, later);
-    if count == 0 {
-        report::word(b"same");
-    } else {
-        report::word(b"differ");
-        report::count(count);
-    }
+// The inner part against the recording.
+fn compared(n: usize, hops: usize, x: &[i16], out: &[i16]) {
+    let part = filter_bank::inner(n, hops, out);
+    report::word(b"differ");
+    report::count(differing(part, x));
     report::end();
 }
 
-// Marks from a place on: what the next call writes there is seen.
-fn mark(out: &mut [i16], from: usize) {
-    for i in from..out.len() {
+// Marks at every place: what the next call writes is seen.
+fn mark(out: &mut [i16]) {
+    for i in 0..out.len() {
         out[i] = MARK;
     }
 }
 
-// Coefficients back to samples, and the inner part of them.
-fn back(n: usize, blocks: usize, later: &[i16], c: &[i32], out: &mut [i16]) {
-    synthesised(n, blocks, c, out);
-    compared(n, blocks, later, out);
-    viewed(n, blocks, out);
-    mark(out, n / 2);
+// Coefficients back to samples.
+fn back(n: usize, hops: usize, x: &[i16], c: &[i32], out: &mut [i16]) {
+    synthesised(n, hops, c, out);
+    compared(n, hops, x, out);
+    viewed(n, hops, out);
+    mark(out);
 }
 
 // A coefficient out of range in the last place.
@@ -150,85 +140,89 @@ fn spoil(c: &mut [i32]) {
     }
 }
 
-// A recording from place m on.
-fn later<'a>(x: &'a [i16], m: usize) -> &'a [i16] {
-    if m <= x.len() {
-        return &x[m..];
-    }
-    &x[..0]
-}
-
 // A recording there and back: by its coefficients as they are, changed a little, changed much, and with one of them out of range.
-fn there_and_back(
-    route: Route,
-    n: usize,
-    blocks: usize,
-    x: &[i16],
-    c: &mut [i32],
-    out: &mut [i16],
-) {
-    let rest = later(x, n / 2);
-    analysed(route, n, blocks, x, c);
-    back(n, blocks, rest, c, out);
+fn there_and_back(route: Route, n: usize, hops: usize, x: &[i16], c: &mut [i32], out: &mut [i16]) {
+    analysed(route, n, hops, x, c);
+    back(n, hops, x, c, out);
     change(c, 3, 7);
-    back(n, blocks, rest, c, out);
+    back(n, hops, x, c, out);
     change(c, 4, 5000);
-    back(n, blocks, rest, c, out);
+    back(n, hops, x, c, out);
     spoil(c);
-    back(n, blocks, rest, c, out);
+    back(n, hops, x, c, out);
 }
 
 // Large buffers of marks.
 fn marks() -> [i16; ROOM]
-    ensures { λ r. ⌜ 147528 ≡ length r ⌝ }
+    ensures { λ r. ⌜ 147492 ≡ length r ⌝ }
 {
     [MARK; ROOM]
 }
 
 fn coefficient_marks() -> [i32; ROOM]
-    ensures { λ r. ⌜ 147528 ≡ length r ⌝ }
+    ensures { λ r. ⌜ 147492 ≡ length r ⌝ }
 {
     [12345; ROOM]
 }
 
-// A recording of noise: l samples, and buffers of m entries.
-fn buffered(route: Route, n: usize, blocks: usize, span: u64, l: usize, m: usize)
-    requires { ⌜ (n ≤ 72) × (blocks ≤ 4097) × (span ≤ 32768) × (l ≤ 147528) × (m ≤ 147528) ⌝ }
+// A recording of the first l samples of x, and room for m coefficients.
+fn buffered(route: Route, n: usize, hops: usize, x: [i16; ROOM], l: usize, m: usize)
+    requires { ⌜ (l ≤ 147492) × (m ≤ 147492) ⌝ }
 {
-    let mut x = marks();
-    report::noise::fill(&mut x, (n + blocks) as u64, span);
     let mut c = coefficient_marks();
     let mut out = marks();
-    there_and_back(route, n, blocks, &x[..l], &mut c[..m], &mut out[..m]);
+    there_and_back(route, n, hops, &x[..l], &mut c[..m], &mut out[..l]);
 }
 
 // The same, in buffers of the stated lengths.
-fn recorded(route: Route, n: usize, blocks: usize, span: u64)
-    requires { ⌜ (n ≤ 72) × (blocks ≤ 4097) × (span ≤ 32768) ⌝ }
+fn recorded(route: Route, n: usize, hops: usize, x: [i16; ROOM])
+    requires { ⌜ (n ≤ 72) × (hops ≤ 4096) ⌝ }
 {
     let m = n / 2;
-    let count = blocks * m;
-    buffered(route, n, blocks, span, count + m, count);
+    let count = hops * m;
+    buffered(route, n, hops, x, count, count + m);
 }
 
-// Recordings of few blocks, from quiet to the loudest, of the most, and of none and one too many.
-fn recordings(route: Route, n: usize)
-    requires { ⌜ n ≤ 72 ⌝ }
+// A recording of noise.
+fn noisy(route: Route, n: usize, hops: usize, span: u64)
+    requires { ⌜ (n ≤ 72) × (hops ≤ 4096) × (span ≤ 32768) ⌝ }
 {
-    recorded(route, n, 1, 32768);
-    recorded(route, n, 2, 32768);
-    recorded(route, n, 3, 32768);
-    recorded(route, n, 1, 1);
-    recorded(route, n, 2, 100);
-    recorded(route, n, 3, 1);
-    recorded(route, n, 2, 0);
-    recorded(route, n, 3, 0);
-    recorded(route, n, BLOCKS, 32768);
-    recorded(route, n, 0, 32768);
-    recorded(route, n, BLOCKS + 1, 32768);
+    let mut x = marks();
+    report::noise::fill(&mut x, (n + hops) as u64, span);
+    recorded(route, n, hops, x);
 }
 
-// A few blocks of noise.
+// Silence but for a click in the first sample and one in the last.
+fn clicked(route: Route, n: usize, hops: usize, last: usize)
+    requires { ⌜ (n ≤ 72) × (hops ≤ 4096) × (last < 147492) ⌝ }
+{
+    let mut x = [0; ROOM];
+    x[0] = 32767;
+    x[last] = -32768;
+    recorded(route, n, hops, x);
+}
+
+// Recordings of few hops, from quiet to the loudest, of the most, and of none and one too many.
+fn recordings(route: Route, n: usize, m: usize)
+    requires { ⌜ (n ≤ 72) × (1 ≤ m) × (m ≤ 36) ⌝ }
+{
+    noisy(route, n, 1, 32768);
+    noisy(route, n, 2, 32768);
+    noisy(route, n, 3, 32768);
+    noisy(route, n, 1, 1);
+    noisy(route, n, 2, 100);
+    noisy(route, n, 1, 0);
+    noisy(route, n, 3, 0);
+    clicked(route, n, 1, m - 1);
+    clicked(route, n, 2, 2 * m - 1);
+    clicked(route, n, 3, 3 * m - 1);
+    clicked(route, n, HOPS, HOPS * m - 1);
+    noisy(route, n, HOPS, 32768);
+    noisy(route, n, 0, 32768);
+    noisy(route, n, HOPS + 1, 32768);
+}
+
+// A few hops of noise.
 fn noise() -> [i16; SMALL]
     ensures { λ r. ⌜ 160 ≡ length r ⌝ }
 {
@@ -248,188 +242,133 @@ fn with(at: usize, v: i32) -> [i32; SMALL]
 }
 
 // A call by a route on l samples and a buffer of m marks.
-fn offer(route: Route, n: usize, blocks: usize, l: usize, m: usize)
+fn offer(route: Route, n: usize, hops: usize, l: usize, m: usize)
     requires { ⌜ (l ≤ 160) × (m ≤ 160) ⌝ }
 {
     let x = noise();
     let mut out = [12345; SMALL];
-    analysed(route, n, blocks, &x[..l], &mut out[..m]);
+    analysed(route, n, hops, &x[..l], &mut out[..m]);
 }
 
-fn both(n: usize, blocks: usize, l: usize, m: usize)
-    requires { ⌜ (l ≤ 160) × (m ≤ 160) ⌝ }
-{
-    offer(Route::Direct, n, blocks, l, m);
-    offer(Route::Short, n, blocks, l, m);
-}
-
-// A call on l coefficients and a buffer of m marks.
-fn play(n: usize, blocks: usize, c: [i32; SMALL], l: usize, m: usize)
+// A call on m coefficients and a buffer of l marks.
+fn play(n: usize, hops: usize, c: [i32; SMALL], m: usize, l: usize)
     requires { ⌜ (l ≤ 160) × (m ≤ 160) ⌝ }
 {
     let mut out = [MARK; SMALL];
-    synthesised(n, blocks, &c[..l], &mut out[..m]);
+    synthesised(n, hops, &c[..m], &mut out[..l]);
 }
 
 // The inner part of a buffer of l samples.
-fn part(n: usize, blocks: usize, l: usize)
+fn part(n: usize, hops: usize, l: usize)
     requires { ⌜ l ≤ 160 ⌝ }
 {
     let out = noise();
-    viewed(n, blocks, &out[..l]);
+    viewed(n, hops, &out[..l]);
 }
 
-// Samples and coefficients that are one fewer, one more, none, or one in place of the other.
-fn wrong_analysis(n: usize, blocks: usize, l: usize, m: usize)
+// Every call on l samples and m coefficients, these in range and with one that is not.
+fn every(n: usize, hops: usize, l: usize, m: usize)
+    requires { ⌜ (l ≤ 160) × (m ≤ 160) ⌝ }
+{
+    offer(Route::Direct, n, hops, l, m);
+    offer(Route::Short, n, hops, l, m);
+    play(n, hops, with(0, 1), m, l);
+    play(n, hops, with(0, BELOW), m, l);
+    part(n, hops, l);
+}
+
+// Samples and coefficients that are one fewer, one more, none, or one in place of the other; the stated lengths last.
+fn lengths(n: usize, hops: usize, l: usize, m: usize)
     requires { ⌜ (1 ≤ l) × (l < 160) × (1 ≤ m) × (m < 160) ⌝ }
 {
-    both(n, blocks, l - 1, m);
-    both(n, blocks, l + 1, m);
-    both(n, blocks, 0, m);
-    both(n, blocks, l, m - 1);
-    both(n, blocks, l, m + 1);
-    both(n, blocks, l, 0);
-    both(n, blocks, l - 1, m - 1);
-    both(n, blocks, l + 1, m + 1);
-    both(n, blocks, 0, 0);
-    both(n, blocks, m, l);
-    both(n, blocks, l, l);
-    both(n, blocks, m, m);
+    every(n, hops, l - 1, m);
+    every(n, hops, l + 1, m);
+    every(n, hops, 0, m);
+    every(n, hops, l, m - 1);
+    every(n, hops, l, m + 1);
+    every(n, hops, l, 0);
+    every(n, hops, l - 1, m - 1);
+    every(n, hops, l + 1, m + 1);
+    every(n, hops, 0, 0);
+    every(n, hops, m, l);
+    every(n, hops, l, l);
+    every(n, hops, m, m);
+    every(n, hops, l, m);
 }
 
-fn wrong_synthesis(n: usize, blocks: usize, c: [i32; SMALL], m: usize)
-    requires { ⌜ (1 ≤ m) × (m < 160) ⌝ }
-{
-    play(n, blocks, c, m - 1, m);
-    play(n, blocks, c, m + 1, m);
-    play(n, blocks, c, 0, m);
-    play(n, blocks, c, m, m - 1);
-    play(n, blocks, c, m, m + 1);
-    play(n, blocks, c, m, 0);
-    play(n, blocks, c, m - 1, m - 1);
-    play(n, blocks, c, m + 1, m + 1);
-    play(n, blocks, c, 0, 0);
-}
-
-// The right length last.
-fn wrong_parts(n: usize, blocks: usize, m: usize)
-    requires { ⌜ (1 ≤ m) × (m < 160) ⌝ }
-{
-    part(n, blocks, m - 1);
-    part(n, blocks, m + 1);
-    part(n, blocks, 0);
-    part(n, blocks, m);
-}
-
-// Wrong lengths, with coefficients in and out of range.
-fn wrong_lengths(n: usize, blocks: usize, l: usize, m: usize)
-    requires { ⌜ (1 ≤ l) × (l < 160) × (1 ≤ m) × (m < 160) ⌝ }
-{
-    wrong_analysis(n, blocks, l, m);
-    wrong_synthesis(n, blocks, with(0, 1), m);
-    wrong_synthesis(n, blocks, with(0, BELOW), m);
-    wrong_parts(n, blocks, m);
-}
-
-// A number of blocks that is not taken: with buffers of one block, of two, with none, and with those whose lengths wrap to what it states.
-fn wrong_count(n: usize, m: usize, blocks: usize)
+// A number of hops that is not taken: with buffers of one hop, of none, and with no buffers.
+fn wrong_count(n: usize, m: usize, hops: usize)
     requires { ⌜ m ≤ 36 ⌝ }
 {
-    both(n, blocks, 2 * m, m);
-    both(n, blocks, 3 * m, 2 * m);
-    both(n, blocks, m, 0);
-    both(n, blocks, 0, 0);
-    let c = with(0, 1);
-    play(n, blocks, c, m, m);
-    play(n, blocks, with(0, ABOVE), m, m);
-    play(n, blocks, c, 2 * m, m);
-    play(n, blocks, c, 0, 0);
-    part(n, blocks, m);
-    part(n, blocks, 2 * m);
-    part(n, blocks, 0);
+    every(n, hops, m, 2 * m);
+    every(n, hops, 0, m);
+    every(n, hops, 0, 0);
 }
 
+// None, one too many, and numbers that pass for 0 or 1 where upper bits are lost: as they are, with 1 added or times M.
 fn wrong_counts(n: usize, m: usize)
     requires { ⌜ m ≤ 36 ⌝ }
 {
     wrong_count(n, m, 0);
-    wrong_count(n, m, 4097);
+    wrong_count(n, m, HOPS + 1);
+    wrong_count(n, m, 4294967297);
     wrong_count(n, m, 9223372036854775808);
+    wrong_count(n, m, 9223372036854775809);
     wrong_count(n, m, 18446744073709551615);
 }
 
-// The coefficient v in one place: with the right lengths, and with one buffer or the other too short.
-fn limit(n: usize, m: usize, at: usize, v: i32)
-    requires { ⌜ (1 ≤ m) × (m ≤ 160) × (at < 160) ⌝ }
+// The coefficient v at the ends of the first block and of the last, of three, between them, and just past them, where it is no cause.
+fn limit(n: usize, m: usize, v: i32)
+    requires { ⌜ (1 ≤ m) × (m ≤ 36) ⌝ }
 {
-    let c = with(at, v);
-    play(n, 2, c, m, m);
-    play(n, 2, c, m, m - 1);
-    play(n, 2, c, m - 1, m);
-}
-
-// First, last, in the middle, and just past the end, where it is no cause.
-fn limit_places(n: usize, m: usize, v: i32)
-    requires { ⌜ (1 ≤ m) × (m < 160) ⌝ }
-{
-    limit(n, m, 0, v);
-    limit(n, m, m / 2, v);
-    limit(n, m, m - 1, v);
-    limit(n, m, m, v);
+    play(n, 2, with(0, v), 3 * m, 2 * m);
+    play(n, 2, with(m - 1, v), 3 * m, 2 * m);
+    play(n, 2, with(m, v), 3 * m, 2 * m);
+    play(n, 2, with(2 * m, v), 3 * m, 2 * m);
+    play(n, 2, with(3 * m - 1, v), 3 * m, 2 * m);
+    play(n, 2, with(3 * m, v), 3 * m, 2 * m);
 }
 
 fn limits(n: usize, m: usize)
-    requires { ⌜ (1 ≤ m) × (m < 160) ⌝ }
+    requires { ⌜ (1 ≤ m) × (m ≤ 36) ⌝ }
 {
-    limit_places(n, m, MOST);
-    limit_places(n, m, ABOVE);
-    limit_places(n, m, LEAST);
-    limit_places(n, m, BELOW);
-    limit_places(n, m, 2147483647);
-    limit_places(n, m, -2147483648);
+    limit(n, m, MOST);
+    limit(n, m, ABOVE);
+    limit(n, m, LEAST);
+    limit(n, m, BELOW);
+    limit(n, m, 2147483647);
+    limit(n, m, -2147483648);
 }
 
 // Recordings of a length, and what is refused at it.
-fn length(n: usize, m: usize)
+fn tabled(n: usize, m: usize)
     requires { ⌜ (n ≤ 72) × (1 ≤ m) × (m ≤ 36) ⌝ }
 {
-    recordings(Route::Direct, n);
-    recordings(Route::Short, n);
-    wrong_lengths(n, 1, 2 * m, m);
-    wrong_lengths(n, 2, 3 * m, 2 * m);
-    wrong_lengths(n, 3, 4 * m, 3 * m);
+    recordings(Route::Direct, n, m);
+    recordings(Route::Short, n, m);
+    lengths(n, 1, m, 2 * m);
+    lengths(n, 2, 2 * m, 3 * m);
     wrong_counts(n, m);
-    limits(n, 2 * m);
+    limits(n, m);
 }
 
-// The buffers of two blocks of every length under the name of n.
-fn named(n: usize) {
-    both(n, 2, 18, 12);
-    both(n, 2, 36, 24);
-    both(n, 2, 54, 36);
-    both(n, 2, 108, 72);
-    let c = with(0, 1);
-    play(n, 2, c, 12, 12);
-    play(n, 2, c, 24, 24);
-    play(n, 2, c, 36, 36);
-    play(n, 2, c, 72, 72);
-}
-
-// A length that is not tabled: with buffers of its own, and with everything else wrong too.
+// A length that is not tabled: with the buffers of two hops of every length that is, with its own, and with everything else wrong too.
 fn untabled(n: usize, m: usize)
     requires { ⌜ m ≤ 36 ⌝ }
 {
-    named(n);
-    wrong_lengths(n, 2, 3 * m + 1, 2 * m + 1);
+    every(n, 2, 12, 18);
+    every(n, 2, 24, 36);
+    every(n, 2, 36, 54);
+    every(n, 2, 72, 108);
+    lengths(n, 2, 2 * m + 1, 3 * m + 1);
     wrong_counts(n, m);
-    limit(n, 2 * m + 1, 0, ABOVE);
 }
 
 fn main() {
-    length(12, 6);
-    length(24, 12);
-    length(36, 18);
-    length(72, 36);
+    tabled(12, 6);
+    tabled(24, 12);
+    tabled(36, 18);
+    tabled(72, 36);
     untabled(0, 0);
     untabled(11, 5);
     untabled(48, 24);

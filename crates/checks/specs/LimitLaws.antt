@@ -14,7 +14,7 @@ use Rattle.arithmetic.specs.OrderLaws.{abs-le}
 use Rattle.arithmetic.specs.TestLaws.{all-at, both-left, both-right, is-T}
 use Rattle.cosine.specs.Kernels.{tabled}
 use Rattle.cosine.specs.LengthLaws.{length-of}
-use Rattle.checks.specs.Limits.{within, coefficientLimit, inRange, blockLimit, counted}
+use Rattle.checks.specs.Limits.{within, coefficientLimit, inRange, hopLimit, counted}
 
 -- a number within the limit
 pub within-abs : (z : ℤ) (b : ℕ) → T (within z b) → natAbs z ≤ b
@@ -28,14 +28,14 @@ pub range-small : (x : List ℤ) (m : ℕ) → length x ≡ m → inRange m x �
 unfolding inRange
 range-small x m l e = record { small = λ k p. within-abs (at x k) coefficientLimit (all-at m (λ k. within (at x k) coefficientLimit) (is-T e) k (omega (arith, l))) }
 
-pub counted-some : (B : ℕ) → counted B ≡ true → 1 ≤ B
+pub counted-some : (H : ℕ) → counted H ≡ true → 1 ≤ H
 unfolding counted
-counted-some B e = leb→le 1 B (both-left (leb 1 B) (leb B blockLimit) (is-T e))
+counted-some H e = leb→le 1 H (both-left (leb 1 H) (leb H hopLimit) (is-T e))
 
-pub counted-most : (B : ℕ) → counted B ≡ true → B ≤ 4096
+pub counted-most : (H : ℕ) → counted H ≡ true → H ≤ 4095
 unfolding counted
-counted-most B e = leb→le B blockLimit (both-right (leb 1 B) (leb B blockLimit) (is-T e))
+counted-most H e = leb→le H hopLimit (both-right (leb 1 H) (leb H hopLimit) (is-T e))
 
 -- the products that the code makes are small
-pub places-few : (N : ℕ) → T (tabled N) → (B : ℕ) → B ≤ 4097 → B * (N / 2) ≤ 4097 * 36
+pub places-few : (N : ℕ) → T (tabled N) → (B : ℕ) → B ≤ 4096 → B * (N / 2) ≤ 4096 * 36
 places-few N t B p = mul-le-mul p (let h : N / 2 ≤ 36 = omega (arith, length-of N t .most) in h)

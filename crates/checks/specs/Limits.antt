@@ -1,4 +1,4 @@
--- The limits of document 01, 'When the bank declines', as tests: definitions.
+-- The limits of document 01, 'When the bank declines', and of document 02, P1, as tests: definitions.
 use mathlib.Core.Bool.{Bool, cond, false}
 use mathlib.Core.List.{List}
 use Prim.Native.Nat.{ℕ, _*_, _^_}
@@ -22,9 +22,9 @@ tailLimit M = M * 2 ^ 55
 unfoldable pub inRange : ℕ → List ℤ → Bool
 inRange m x = all m (λ k. within (at x k) coefficientLimit)
 
--- B is 1 to 4,096
-abbrev pub blockLimit : ℕ
-blockLimit = 4096
+-- H is 1 to 4,095
+abbrev pub hopLimit : ℕ
+hopLimit = 4095
 
 unfoldable pub counted : ℕ → Bool
-counted B = cond (leb 1 B) (leb B blockLimit) false
+counted H = cond (leb 1 H) (leb H hopLimit) false

@@ -1,4 +1,4 @@
-// The checks of lengths, numbers of blocks, tails and coefficients, which the public calls share.
+// The checks of lengths, numbers of hops, tails and coefficients, which the public calls share.
 // No function here is a public call.
 ghost use mathlib.Core.Path.{_≡_};
 ghost use Prim.Native.Nat.{_^_, _≤_};
@@ -15,8 +15,8 @@ const LARGEST: usize = 536870912;
 // 2^55: a tail entry of a stream with hops of M samples is at most M of these.
 const TAIL_UNIT: usize = 36028797018963968;
 
-// The most blocks of a recording.
-const BLOCKS: usize = 4096;
+// The most hops of a recording.
+const HOPS: usize = 4095;
 
 // The lengths at which a route is offered: cause 1.
 pub fn is_offered(route: Route, n: usize) -> bool
@@ -28,14 +28,14 @@ pub fn is_offered(route: Route, n: usize) -> bool
     }
 }
 
-// The numbers of blocks that a recording may have: cause 2.
-pub fn is_counted(blocks: usize) -> bool
-    ensures { λ r. ⌜ r ≡ counted blocks ⌝ }
+// The numbers of hops that a recording may have: cause 2.
+pub fn is_counted(hops: usize) -> bool
+    ensures { λ r. ⌜ r ≡ counted hops ⌝ }
 {
-    if blocks < 1 {
+    if hops < 1 {
         return false;
     }
-    blocks <= BLOCKS
+    hops <= HOPS
 }
 
 // v lies within plus or minus limit. Two comparisons: the least i64 has no size that fits.

@@ -3,7 +3,7 @@ use mathlib.Core.Path.{_≡_, refl, sym, ap, _∙_}
 use mathlib.Core.Logic.{_≢_}
 use mathlib.Core.Bool.{Bool, true, false, cond}
 use mathlib.Core.List.{List, _∷_, _++_}
-use Prim.Native.Nat.{ℕ, _*_, _/_}
+use Prim.Native.Nat.{ℕ, _+_, _*_, _/_}
 use native.Mathlib.Omega.{arith}
 use native.Mathlib.Decide.{ℕ-discrete}
 use lib.Dec.{eqb}
@@ -24,25 +24,25 @@ use Rattle.stream_calls.specs.declared.Made.{Made}
 use Rattle.checks.specs.Causes.First.{none, stop, pass}
 use Rattle.checks.specs.CauseLaws.{first-is, same, differs, beside}
 use Rattle.block_calls.specs.Analysis.{analyseCauses, analyseCode, analyseOut}
-use Rattle.checks.specs.Limits.{within, tailLimit, coefficientLimit, inRange, blockLimit, counted}
+use Rattle.checks.specs.Limits.{within, tailLimit, coefficientLimit, inRange, hopLimit, counted}
 use Rattle.stream_calls.specs.Streams.{fresh, sound, stepCauses, stepCode, step, placeCauses, placeCode, placeTail, placeOut}
 use Rattle.checks.specs.LimitLaws.{range-small, counted-some, counted-most}
 use Rattle.stream_calls.specs.StreamLaws.{sound-tabled, sound-bounded, place-code, place-out, place-tail}
-use Rattle.recording_calls.specs.Recordings.{recordedCauses, recordedCode, recordedOut, playedCauses, playedCode, playedOut, shaped, innerFrom, innerOf}
+use Rattle.recording_calls.specs.Recordings.{recordedCauses, recordedCode, recordedOut, playedCauses, playedCode, playedOut, shaped, innerOf}
 use Rattle.c_face.specs.Face as F
 use Rattle.c_face.specs.StateLaws.{fresh-holds, fresh-long, same-code, same-out, same-stream, same-long}
 use Rattle.demands.specs.ListingAnswerLaws.{listing-answers}
 use Rattle.demands.specs.StepLaws.{abs-within, sound-of, code-other, refused-stream, refused-buffer}
-use Rattle.demands.specs.Demands.{Tabled, Counted, InRange, SoundTail, AnalyseAnswers, FreshAnswers, StepAnswers, streamOf, PlaceAnswers, RecordedAnswers, PlayedAnswers, Empty, InnerAnswers, StateFreshAnswers, StateStepAnswers, Demand-1}
+use Rattle.demands.specs.Demands.{Tabled, Counted, InRange, SoundTail, AnalyseAnswers, FreshAnswers, StepAnswers, streamOf, PlaceAnswers, RecordedAnswers, PlayedAnswers, InnerAnswers, StateFreshAnswers, StateStepAnswers, Demand-1}
 
 -- ---- the causes as tests
-module _ (B : ℕ) where
-  counts : Counted B → counted B ≡ true
+module _ (H : ℕ) where
+  counts : Counted H → counted H ≡ true
   unfolding counted
-  counts c = rw (le-leb 1 B (c .some), le-leb B blockLimit (c .most))
+  counts c = rw (le-leb 1 H (c .some), le-leb H hopLimit (c .most))
 
-  counts-not : ¬ Counted B → counted B ≡ false
-  counts-not n = is-false (λ t. n (record { some = counted-some B (is-true t); most = counted-most B (is-true t) }))
+  counts-not : ¬ Counted H → counted H ≡ false
+  counts-not n = is-false (λ t. n (record { some = counted-some H (is-true t); most = counted-most H (is-true t) }))
 
 module _ (x : List ℤ) (m : ℕ) (l : length x ≡ m) where
   ranges : InRange x → inRange m x ≡ true
@@ -123,48 +123,44 @@ place-answers N tail x out = record {
   kept = λ r. code-other (placeCode N tail x out) (hop (streamOf N tail) x) out r;
 }
 
-recorded-answers : (route : Route) (N B : ℕ) (x out : List ℤ) → RecordedAnswers route N B x out
+recorded-answers : (route : Route) (N H : ℕ) (x out : List ℤ) → RecordedAnswers route N H x out
 unfolding recordedCauses recordedCode recordedOut
-recorded-answers route N B x out =
-    let cs = recordedCauses route N B x out in
+recorded-answers route N H x out =
+    let cs = recordedCauses route N H x out in
     record {
       one = λ n. first-is cs (stop (is-false n));
-      two-blocks = λ t n. first-is cs (pass (is-true t) (stop (counts-not B n)));
+      two-hops = λ t n. first-is cs (pass (is-true t) (stop (counts-not H n)));
       two-in = λ t n. first-is cs (pass (is-true t) (beside (differs n)));
       two-out = λ t n. first-is cs (pass (is-true t) (beside (beside (differs n))));
-      taken = λ t k l m. first-is cs (pass (is-true t) (pass (counts B k) (same l (same m none))));
-      kept = λ r. code-other (recordedCode route N B x out) (analysis route N B x) out r;
+      taken = λ t k l m. first-is cs (pass (is-true t) (pass (counts H k) (same l (same m none))));
+      kept = λ r. code-other (recordedCode route N H x out) (analysis route N H x) out r;
     }
 
-played-answers : (N B : ℕ) (x out : List ℤ) → PlayedAnswers N B x out
+played-answers : (N H : ℕ) (x out : List ℤ) → PlayedAnswers N H x out
 unfolding playedCauses playedCode playedOut
-played-answers N B x out =
-    let m = B * (N / 2) in
-    let cs = playedCauses N B x out in
+played-answers N H x out =
+    let m = (H + 1) * (N / 2) in
+    let cs = playedCauses N H x out in
     record {
       one = λ n. first-is cs (stop (is-false n));
-      two-blocks = λ t n. first-is cs (pass (is-true t) (stop (counts-not B n)));
+      two-hops = λ t n. first-is cs (pass (is-true t) (stop (counts-not H n)));
       two-in = λ t n. first-is cs (pass (is-true t) (beside (differs n)));
       two-out = λ t n. first-is cs (pass (is-true t) (beside (beside (differs n))));
-      three = λ t k l h n. first-is cs (pass (is-true t) (pass (counts B k) (same l (same h (stop (ranges-not x m l n))))));
-      taken = λ t k l h r. first-is cs (pass (is-true t) (pass (counts B k) (same l (same h (pass (ranges x m l r) none)))));
-      kept = λ r. code-other (playedCode N B x out) (synthesis N B x) out r;
+      three = λ t k l f n. first-is cs (pass (is-true t) (pass (counts H k) (same l (same f (stop (ranges-not x m l n))))));
+      taken = λ t k l f r. first-is cs (pass (is-true t) (pass (counts H k) (same l (same f (pass (ranges x m l r) none)))));
+      kept = λ r. code-other (playedCode N H x out) (synthesis N H x) out r;
     }
 
-empty-of : (N B : ℕ) (out : List ℤ) → shaped N B (length out) ≡ false → Empty N B out
-unfolding innerOf innerFrom
-empty-of N B out e = record { holds = rw e; starts = rw e }
-
-inner-answers : (N B : ℕ) (out : List ℤ) → InnerAnswers N B out
-unfolding shaped innerOf innerFrom
-inner-answers N B out =
-    let m = B * (N / 2) in
+inner-answers : (N H : ℕ) (out : List ℤ) → InnerAnswers N H out
+unfolding shaped innerOf
+inner-answers N H out =
+    let m = H * (N / 2) in
     let l = length out in
     record {
-      empty-n = λ n. empty-of N B out (let g : tabled N ≡ false = is-false n in rw g);
-      empty-blocks = λ n. empty-of N B out (shaped-counted (tabled N) (counted B) (eqb l m) (counts-not B n));
-      empty-long = λ n. empty-of N B out (shaped-size (tabled N) (counted B) (eqb l m) (ne-eqb l m n));
-      part = λ t k e. let g : tabled N ≡ true = is-true t in (rw (g, counts B k, eq-eqb l m e), rw (g, counts B k, eq-eqb l m e));
+      empty-n = λ n. let g : tabled N ≡ false = is-false n in rw g;
+      empty-hops = λ n. rw (shaped-counted (tabled N) (counted H) (eqb l m) (counts-not H n));
+      empty-long = λ n. rw (shaped-size (tabled N) (counted H) (eqb l m) (ne-eqb l m n));
+      whole = λ t k e. let g : tabled N ≡ true = is-true t in rw (g, counts H k, eq-eqb l m e);
     }
 
 -- ---- the calls for C on a state

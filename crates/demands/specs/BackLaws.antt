@@ -2,8 +2,7 @@
 -- is defined by.
 use mathlib.Core.Path.{_≡_, sym, ap, _∙_}
 use mathlib.Core.List.{List}
-use Prim.Native.Nat.{ℕ, suc, _+_, _-_, _*_, _/_, _%_, _^_, _≤_, _<_}
-use native.Mathlib.Nat.{div-lt-iff-lt-mul, mod-lt, div-add-mod, suc-mul, add-mul, one-mul, mul-comm}
+use Prim.Native.Nat.{ℕ, suc, _+_, _*_, _/_, _%_, _^_, _≤_, _<_}
 use native.Mathlib.Omega.{arith}
 use lib.Dec.{T}
 use lib.ListN.{length, drop, length-drop}
@@ -30,127 +29,107 @@ use Rattle.recording_calls.specs.Recordings.{playedCode, playedOut, innerOf}
 use Rattle.checks.specs.LimitLaws.{counted-some}
 use Rattle.recording_calls.specs.RecordingLaws.{Recorded, recorded-facts, recorded-taken, Played, played-facts, played-taken, shaped-of}
 use Rattle.demands.specs.Steps.{Recording, Brought, provedChange}
-use Rattle.demands.specs.RecordingLaws.{back-near, back-same, near-asked}
+use Rattle.demands.specs.RecordingLaws.{Hop, hop-of, back-near, back-same, near-asked}
 use Rattle.demands.specs.Recordings.{ByOneCall, BlockByBlock, Back, SharperBack}
 
-module _ (N B Q : ℕ) (routes : ℕ → Route) (x X out : List ℤ) (rec : Recording N (B + 1) x) (played : playedCode N B X out ≡ 0)
-    (offers : (b : ℕ) → b < B → T (offered (routes b) N))
-    (changed : (b : ℕ) → b < B → (k : ℕ) → k < N / 2 → natAbs (at X (b * (N / 2) + k) -ℤ at (coefficients (routes b) N (block N x b)) k) ≤ Q) where
-  facts : Played N B X out
-  facts = played-facts N B X out played
-
-  some : 1 ≤ B
-  some = counted-some B (facts .blocks)
+module _ (N H Q : ℕ) (routes : ℕ → Route) (x X out : List ℤ) (rec : Recording N H x) (played : playedCode N H X out ≡ 0)
+    (offers : (b : ℕ) → b ≤ H → T (offered (routes b) N))
+    (changed : (b : ℕ) → b ≤ H → (k : ℕ) → k < N / 2 → natAbs (at X (b * (N / 2) + k) -ℤ at (coefficients (routes b) N (block N x b)) k) ≤ Q) where
+  facts : Played N H X out
+  facts = played-facts N H X out played
 
   tab : T (tabled N)
   tab = facts .length-is
 
   left : List ℤ
-  left = playedOut N B X out
+  left = playedOut N H X out
 
-  left-is : left ≡ synthesis N B X
+  left-is : left ≡ synthesis N H X
   unfolding left
-  left-is = sym (played-taken N B X out played .1)
+  left-is = sym (played-taken N H X out played .1)
 
-  left-long : length left ≡ B * (N / 2)
+  -- hop h as it comes back
+  abbrev hops : ℕ → List ℤ
+  hops h = returned N (part N X) (suc h)
+
+  left-long : length left ≡ H * (N / 2)
   unfolding synthesis
-  left-long = ap length left-is ∙ joined-length (returned N (part N X)) (N / 2) (returned-long N (part N X)) B
+  left-long = ap length left-is ∙ joined-length hops (N / 2) (λ h. returned-long N (part N X) (suc h)) H
 
   -- the M coefficients of block b
-  part-entry : (b : ℕ) → b < B → (k : ℕ) → k < N / 2 → at (part N X b) k ≡ at X (b * (N / 2) + k)
+  part-entry : (b : ℕ) → b ≤ H → (k : ℕ) → k < N / 2 → at (part N X b) k ≡ at X (b * (N / 2) + k)
   unfolding part
-  part-entry b p k q = part-at X (b * (N / 2)) (N / 2) (N / 2) (omega arith) (omega (arith, facts .long, within b B (N / 2) p)) k q
+  part-entry b p k q = part-at X (b * (N / 2)) (N / 2) (N / 2) (omega arith) (omega (arith, facts .long, within b (H + 1) (N / 2) (omega arith))) k q
 
-  brought : (b : ℕ) → b < B → Brought N (B + 1) Q routes x b (part N X b)
+  brought : (b : ℕ) → b ≤ H → Brought N H Q routes x b (part N X b)
   brought b p = record {
-    covered = omega arith;
+    exists = p;
     offers = offers b p;
-    long = part-length-is N tab B X (facts .long) (facts .range) b p;
+    long = part-length-is N tab (H + 1) X (facts .long) (facts .range) b (omega arith);
     near = λ k q. rw (part-entry b p k q) (changed b p k q);
   }
 
-  -- the samples of hop b + 1: what the tail of block b and block b + 1 give
-  left-at : (b n : ℕ) → suc b < B → n < N / 2 →
-      at left (suc b * (N / 2) + n) ≡ clamp (rnd (V′ N (rising N) (falling N) (part N X b) (N / 2 + n) +ℤ V′ N (rising N) (falling N) (part N X (suc b)) n) (N * 2 ^ 30))
+  -- the samples of hop h: what the tail of block h and block h + 1 give
+  left-at : (h n : ℕ) → h < H → n < N / 2 →
+      at left (h * (N / 2) + n) ≡ clamp (rnd (V′ N (rising N) (falling N) (part N X h) (N / 2 + n) +ℤ V′ N (rising N) (falling N) (part N X (suc h)) n) (N * 2 ^ 30))
   unfolding synthesis
-  left-at b n p q =
-      ap (λ (l : List ℤ). at l (suc b * (N / 2) + n)) left-is
-      ∙ joined-at (returned N (part N X)) (N / 2) (returned-long N (part N X)) B (suc b) n p q
-      ∙ returned-at N (part N X) b n q
+  left-at h n p q =
+      ap (λ (l : List ℤ). at l (h * (N / 2) + n)) left-is
+      ∙ joined-at hops (N / 2) (λ h. returned-long N (part N X) (suc h)) H h n p q
+      ∙ returned-at N (part N X) h n q
 
-  -- ---- place M + j: hop b + 1, place n
-  module _ (j : ℕ) (p : j < (B - 1) * (N / 2)) where
-    abbrev b : ℕ
-    b = j / (N / 2)
+  -- ---- sample i: hop h, place n
+  module _ (i : ℕ) (p : i < H * (N / 2)) where
+    abbrev h : ℕ
+    h = i / (N / 2)
 
     abbrev n : ℕ
-    n = j % (N / 2)
+    n = i % (N / 2)
 
-    hop-some : 0 < N / 2
-    hop-some = omega (arith, length-of N tab .twelve, length-of N tab .some)
+    lies : Hop N H i
+    lies = hop-of N tab H i p
 
-    b-less : suc b < B
-    b-less = let h : b < B - 1 = div-lt-iff-lt-mul {x = j} {y = B - 1} hop-some .1 p in omega arith
+    near-at : natAbs (at left i -ℤ at x i) ≤ (3 * provedChange Q (routes h) (routes (suc h)) + 36) / 64
+    near-at =
+        rw (ap (at left) (sym (lies .place)) ∙ left-at h n (lies .within) (lies .less), ap (at x) (sym (lies .place)))
+        (back-near N tab H x rec Q routes h (part N X h) (part N X (suc h)) (brought h (omega (arith, lies .within))) (brought (suc h) (lies .within)) n (lies .less))
 
-    n-less : n < N / 2
-    n-less = mod-lt j hop-some
+    same-at : Q ≤ 9 → routes h ≡ Direct → routes (suc h) ≡ Direct → at left i ≡ at x i
+    same-at q e f =
+        ap (at left) (sym (lies .place))
+        ∙ left-at h n (lies .within) (lies .less)
+        ∙ back-same N tab H x rec Q routes h (part N X h) (part N X (suc h)) (brought h (omega (arith, lies .within))) (brought (suc h) (lies .within)) q e f n (lies .less)
+        ∙ ap (at x) (lies .place)
 
-    place : suc b * (N / 2) + n ≡ N / 2 + j
-    place = omega (arith, suc-mul b (N / 2), div-add-mod j (N / 2), mul-comm b (N / 2))
-
-    inner-entry : at (innerOf N B left) j ≡ at left (suc b * (N / 2) + n)
-    unfolding innerOf
-    inner-entry = rw (shaped-of N tab B (facts .blocks) (length left) left-long) (getD-drop (N / 2) left j (pos 0) ∙ ap (at left) (sym place))
-
-    inner-near : natAbs (at (innerOf N B left) j -ℤ at x (N / 2 + j)) ≤ (3 * provedChange Q (routes b) (routes (suc b)) + 36) / 64
-    inner-near =
-        rw (inner-entry, left-at b n b-less n-less, ← place)
-        (back-near N tab (B + 1) x rec Q routes b (part N X b) (part N X (suc b)) (brought b (omega (arith, b-less))) (brought (suc b) b-less) n n-less)
-
-    inner-same : Q ≤ 9 → routes b ≡ Direct → routes (suc b) ≡ Direct → at (innerOf N B left) j ≡ at x (N / 2 + j)
-    inner-same q e f =
-        rw (inner-entry, left-at b n b-less n-less, ← place)
-        (back-same N tab (B + 1) x rec Q routes b (part N X b) (part N X (suc b)) (brought b (omega (arith, b-less))) (brought (suc b) b-less) q e f n n-less)
-
-  -- a hop fewer
-  fewer : B * (N / 2) ≡ (B - 1) * (N / 2) + N / 2
-  fewer = let e : B - 1 + 1 ≡ B = omega (arith, some) in rw e at (add-mul (B - 1) 1 (N / 2)) ∙ omega (arith, one-mul (N / 2))
-
-  whole : innerOf N B left ≡ drop (N / 2) left
-  unfolding innerOf
-  whole = rw (shaped-of N tab B (facts .blocks) (length left) left-long)
-
-  pub back : Back N B Q routes x (playedOut N B X out) × SharperBack N B Q routes x (playedOut N B X out)
-  unfolding left
+  pub back : Back N H Q routes x (playedOut N H X out) × SharperBack N H Q routes x (playedOut N H X out)
+  unfolding left innerOf
   back = (
     record {
       long = left-long;
-      inner = whole;
-      inner-long = ap length whole ∙ length-drop (N / 2) left ∙ omega (arith, left-long, fewer);
-      near = λ j p. near-asked Q (routes (j / (N / 2))) (routes (suc (j / (N / 2)))) (inner-near j p);
-      same = λ q j p e f. inner-same j p (omega arith) e f;
+      inner = rw (shaped-of N tab H (facts .hops) (length left) left-long);
+      near = λ i p. near-asked Q (routes (i / (N / 2))) (routes (suc (i / (N / 2)))) (near-at i p);
+      same = λ q i p e f. same-at i p (omega arith) e f;
     },
-    record { near = inner-near; same = λ q j p e f. inner-same j p q e f },
+    record { near = near-at; same = λ q i p e f. same-at i p q e f },
   )
 
 -- ---- the theorems, each with what is proved beyond it
 -- one call analysed the recording, by either route; a second, which returned 0, synthesised the changed coefficients
-pub back-by-one-call : (N B Q : ℕ) (route : Route) (x X out : List ℤ) → ((i : ℕ) → i < length x → Sample (at x i)) → ByOneCall N B Q route x X →
-    playedCode N B X out ≡ 0 → Back N B Q (λ b. route) x (playedOut N B X out) × SharperBack N B Q (λ b. route) x (playedOut N B X out)
+pub back-by-one-call : (N H Q : ℕ) (route : Route) (x X out : List ℤ) → ((i : ℕ) → i < length x → Sample (at x i)) → ByOneCall N H Q route x X →
+    playedCode N H X out ≡ 0 → Back N H Q (λ b. route) x (playedOut N H X out) × SharperBack N H Q (λ b. route) x (playedOut N H X out)
 unfolding analysis
-back-by-one-call N B Q route x X out samples given played =
-    let f : Recorded route N B x (given .buffer) = recorded-facts route N B x (given .buffer) (given .taken) in
-    let some = counted-some B (f .blocks) in
-    let is = recorded-taken route N B x (given .buffer) (given .taken) .1 in
-    let rec : Recording N (B + 1) x = record { hops = omega arith; long = f .long; sample = samples } in
-    back N B Q (λ b. route) x X out rec played (λ b p. is-T (f .offers))
+back-by-one-call N H Q route x X out samples given played =
+    let f : Recorded route N H x (given .buffer) = recorded-facts route N H x (given .buffer) (given .taken) in
+    let is = recorded-taken route N H x (given .buffer) (given .taken) .1 in
+    let rec : Recording N H x = record { hops = counted-some H (f .hops); long = f .long; sample = samples } in
+    back N H Q (λ b. route) x X out rec played (λ b p. is-T (f .offers))
     (λ b p k q.
-    let e = joined-at (λ b. coefficients route N (block N x b)) (N / 2) (λ b. coefficients-length route N (block N x b)) B b k p q in
-    rw (e) at (rw (← is) at (given .near (b * (N / 2) + k) (omega (arith, within b B (N / 2) p)))))
+    let e = joined-at (λ b. coefficients route N (block N x b)) (N / 2) (λ b. coefficients-length route N (block N x b)) (H + 1) b k (omega arith) q in
+    rw (e) at (rw (← is) at (given .near (b * (N / 2) + k) (omega (arith, within b (H + 1) (N / 2) (omega arith))))))
 
 -- the blocks were analysed one by one, each by its own route
-pub back-block-by-block : (N B Q : ℕ) (routes : ℕ → Route) (x X out : List ℤ) → Recording N (B + 1) x → BlockByBlock N B Q routes x X →
-    playedCode N B X out ≡ 0 → Back N B Q routes x (playedOut N B X out) × SharperBack N B Q routes x (playedOut N B X out)
-back-block-by-block N B Q routes x X out rec given played =
-    back N B Q routes x X out rec played (λ b p. analysed-offered (routes b) N (block N x b) (given .buffer b) (given .taken b p))
+pub back-block-by-block : (N H Q : ℕ) (routes : ℕ → Route) (x X out : List ℤ) → Recording N H x → BlockByBlock N H Q routes x X →
+    playedCode N H X out ≡ 0 → Back N H Q routes x (playedOut N H X out) × SharperBack N H Q routes x (playedOut N H X out)
+back-block-by-block N H Q routes x X out rec given played =
+    back N H Q routes x X out rec played (λ b p. analysed-offered (routes b) N (block N x b) (given .buffer b) (given .taken b p))
     (λ b p k q. rw (← (analyse-taken (routes b) N (block N x b) (given .buffer b) (given .taken b p) .1)) at (given .near b p k q))

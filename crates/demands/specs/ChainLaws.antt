@@ -9,9 +9,9 @@ use Rattle.analysis.specs.declared.Route.{Route}
 use Rattle.stream_calls.specs.Streams.{step}
 use Rattle.c_face.specs.Face.{entries, streamIn, freshCode, freshState, stepState}
 use Rattle.c_face.specs.StateLaws.{fresh-tabled, fresh-holds, fresh-long, same-code, same-out, same-stream, same-long}
-use Rattle.demands.specs.Steps.{Offer, answered, run, after, turns, final, Recording, InOrder, Returned, Sharper}
+use Rattle.demands.specs.Steps.{Offer, answered, run, after, turns, final, Recording, InOrder, Returned, WholeReturned, Sharper}
 use Rattle.demands.specs.Chains.{called, calls, held}
-use Rattle.demands.specs.ThereAndBackLaws.{there-and-back, there-and-back-sharper}
+use Rattle.demands.specs.ThereAndBackLaws.{there-and-back, whole-returned, there-and-back-sharper}
 
 -- ---- one call is one step
 module _ (state : List ℤ) (a : length state ≡ entries) (o : Offer) where
@@ -54,6 +54,11 @@ module _ (N : ℕ) (state : List ℤ) (z : freshCode N state ≡ 0) (offers : Li
       InOrder N H Q routes x (calls (freshState N state) offers) → Returned N Q routes x (calls (freshState N state) offers) (held (freshState N state) offers)
   calls-there-and-back H Q routes x rec order =
       rw (fresh-calls, fresh-held) (there-and-back N (fresh-tabled N state z) H Q routes x rec offers (rw fresh-calls at order))
+
+  pub calls-whole : (H Q : ℕ) (routes : ℕ → Route) (x : List ℤ) → Recording N H x →
+      InOrder N H Q routes x (calls (freshState N state) offers) → WholeReturned N H Q routes x (calls (freshState N state) offers)
+  calls-whole H Q routes x rec order =
+      rw fresh-calls (whole-returned N (fresh-tabled N state z) H Q routes x rec offers (rw fresh-calls at order))
 
   pub calls-sharper : (H Q : ℕ) (routes : ℕ → Route) (x : List ℤ) → Recording N H x →
       InOrder N H Q routes x (calls (freshState N state) offers) → Sharper N Q routes x (calls (freshState N state) offers)

@@ -6,7 +6,8 @@ use native.Mathlib.Nat.{add-mul, one-mul}
 use native.Mathlib.Omega.{arith}
 use native.Mathlib.Decide.{decLt}
 use lib.Dec.{T}
-use lib.ListN.{length}
+use lib.ListN.{length, drop}
+use lib.Seq.{drop-at}
 use lib.IntN.{ℤ, pos, natAbs, _+ℤ_, _-ℤ_}
 use Rattle.arithmetic.specs.Rounding.{rnd, clamp, Sample}
 use Rattle.arithmetic.specs.RoundingLaws.{sample-abs}
@@ -26,12 +27,13 @@ use Rattle.split.specs.ShortStepLaws.{short-ext}
 use Rattle.stream.specs.declared.Stream.{Stream}
 use Rattle.stream.specs.Steps.{hop, streamAfter, returned}
 use Rattle.stream.specs.StepLaws.{rising-size, falling-size}
-use Rattle.stream.specs.NextLaws.{hop-long, hop-at, next-n, next-at, next-kept}
+use Rattle.stream.specs.NextLaws.{hop-long, hop-at, next-n, next-at, next-kept, returned-long}
 use Rattle.analysis.specs.declared.Route.{Route}
 use Rattle.analysis.specs.declared.Route.the-variants.{Direct, Short}
 use Rattle.analysis.specs.Analysis.{offered, coefficients}
 use Rattle.recording.specs.Recordings.{block, joined, part, analysis, synthesis}
-use Rattle.recording.specs.JoinLaws.{within, joined-length, joined-part}
+use Rattle.recording.specs.BlockLaws.{block-long}
+use Rattle.recording.specs.JoinLaws.{joined-front, joined-length, joined-part}
 use Rattle.analysis.specs.AnalysisLaws.{offered-tabled, coefficients-length}
 use Rattle.recording.specs.RecordingLaws.{part-length-is, part-range, stream-fine}
 use Rattle.stream_calls.specs.declared.Made.{Made}
@@ -127,26 +129,30 @@ stepped-on s x out e = record {
 }
 
 -- ---- a recording is its blocks, analysed one by one
-recorded-on : (route : Route) (N B : ℕ) (x out : List ℤ) → recordedCode route N B x out ≡ 0 → Recorded-on route N B x out
-unfolding analysis part block analyseCauses
-recorded-on route N B x out e =
-    let f = recorded-facts route N B x out e in
+recorded-on : (route : Route) (N H : ℕ) (x out : List ℤ) → recordedCode route N H x out ≡ 0 → Recorded-on route N H x out
+unfolding analysis part analyseCauses
+recorded-on route N H x out e =
+    let f = recorded-facts route N H x out e in
     let t = offered-tabled route N (is-T (f .offers)) in
+    let two : N / 2 + N / 2 ≡ N = omega (arith, length-of N t .twelve) in
     let g : ℕ → List ℤ = λ b. coefficients route N (block N x b) in
     let size : (b : ℕ) → length (g b) ≡ N / 2 = λ b. coefficients-length route N (block N x b) in
-    let is : recordedOut route N B x out ≡ joined B g = sym (recorded-taken route N B x out e .1) in
+    let is : recordedOut route N H x out ≡ joined (H + 1) g = sym (recorded-taken route N H x out e .1) in
     record {
-      long = rw is (joined-length g (N / 2) size B);
+      long = rw is (joined-length g (N / 2) size (H + 1));
       each = λ b p room l.
-          let h : b * (N / 2) + N ≤ length x = omega (arith, f .long, within b B (N / 2) p, add-mul B 1 (N / 2), one-mul (N / 2), length-of N t .twelve) in
-          let z = sym (analyse-answer route N (block N x b) room (pass (f .offers) (same (part-length x (b * (N / 2)) N N refl h) (same l none))) .0) in
-          (z, rw is (joined-part g (N / 2) size B b p) ∙ analyse-taken route N (block N x b) room z .1);
+          let z = sym (analyse-answer route N (block N x b) room (pass (f .offers) (same (block-long N H two x (f .long) b p) (same l none))) .0) in
+          (z, rw is (joined-part g (N / 2) size (H + 1) b (omega arith)) ∙ analyse-taken route N (block N x b) room z .1);
     }
 
 -- ---- and a synthesis is the steps of a stream
-module _ (N B : ℕ) (x out : List ℤ) (e : playedCode N B x out ≡ 0) (rooms : ℕ → List ℤ) (fit : (b : ℕ) → b < B → length (rooms b) ≡ N / 2) where
-  facts : Played N B x out
-  facts = played-facts N B x out e
+module _ (N H : ℕ) (x out : List ℤ) (e : playedCode N H x out ≡ 0) (rooms : ℕ → List ℤ) (fit : (b : ℕ) → b ≤ H → length (rooms b) ≡ N / 2) where
+  -- its blocks
+  abbrev B : ℕ
+  B = H + 1
+
+  facts : Played N H x out
+  facts = played-facts N H x out e
 
   offer-at : ℕ → Offer
   offer-at b = record { brought = part N x b; buffer = rooms b }
@@ -158,7 +164,7 @@ module _ (N B : ℕ) (x out : List ℤ) (e : playedCode N B x out ≡ 0) (rooms 
       let s = streamAfter N (part N x) b in
       let fine = stream-fine N (facts .length-is) B x (facts .long) (facts .range) b (omega arith) in
       let l = part-length-is N (facts .length-is) B x (facts .long) (facts .range) b p in
-      demand-1 .stepped s (part N x b) (rooms b) .taken (rw (fine .n-is) (facts .length-is)) (sound-tail s (fine .n-is) (fine .limited)) (rw (fine .n-is) l) (rw (fine .n-is) (fit b p))
+      demand-1 .stepped s (part N x b) (rooms b) .taken (rw (fine .n-is) (facts .length-is)) (sound-tail s (fine .n-is) (fine .limited)) (rw (fine .n-is) l) (rw (fine .n-is) (fit b (omega arith)))
       (record { each = part-range N (facts .length-is) B x (facts .long) (facts .range) b p .small })
     where
       sound-tail : (s : Stream) → s .n ≡ N → ((n : ℕ) → n < N / 2 → natAbs (at (s .tail) n) ≤ N / 2 * 2 ^ 55) → SoundTail s
@@ -209,11 +215,18 @@ module _ (N B : ℕ) (x out : List ℤ) (e : playedCode N B x out ≡ 0) (rooms 
   unfolding turns from streamAfter
   turns-are = ap (λ (m : Made). run (m .stream) (offering N x rooms 0 B)) (fresh-is N (facts .length-is))
 
-  played-on : Played-on N B x out rooms
-  unfolding synthesis joined
+  -- the first hop that comes back is the run-in
+  all-but-first : synthesis N H x ≡ drop (N / 2) (joined B hops)
+  unfolding synthesis
+  all-but-first =
+      let f : B ≡ suc H = omega arith in
+      sym (ap (λ (k : ℕ). drop (N / 2) (joined k hops)) f ∙ ap (drop (N / 2)) (joined-front H hops) ∙ drop-at (hops 0) (joined H (λ h. hops (suc h))) (N / 2) (returned-long N (part N x) 0))
+
+  played-on : Played-on N H x out rooms
+  unfolding joined
   played-on = record {
     taken = λ i t h. zero-from B 0 (omega arith) i t (rw turns-are at h);
-    hops = sym (played-taken N B x out e .1) ∙ joined-from B 0 (omega arith) ∙ ap outputs (sym turns-are);
+    hops = sym (played-taken N H x out e .1) ∙ all-but-first ∙ ap (drop (N / 2)) (joined-from B 0 (omega arith) ∙ ap outputs (sym turns-are));
   }
 
 pub demand-2 : Demand-2
@@ -222,5 +235,5 @@ demand-2 = record {
   coefficient = analysed;
   stepped = stepped-on;
   recorded = recorded-on;
-  played = λ N B x out e rooms fit. played-on N B x out e rooms fit;
+  played = λ N H x out e rooms fit. played-on N H x out e rooms fit;
 }

@@ -23,9 +23,9 @@ use Rattle.analysis.specs.declared.Route.the-variants.{Direct, Short}
 use Rattle.analysis.specs.Analysis.{offered}
 use Rattle.recording.specs.Recordings.{block, part}
 use Rattle.block_calls.specs.Analysis.{analyseCode, analyseOut}
-use Rattle.checks.specs.Limits.{tailLimit, coefficientLimit, blockLimit}
+use Rattle.checks.specs.Limits.{tailLimit, coefficientLimit, hopLimit}
 use Rattle.stream_calls.specs.Streams.{fresh, stepCode, step, stepOut, placeCode, placeTail, placeOut}
-use Rattle.recording_calls.specs.Recordings.{recordedCode, recordedOut, playedCode, playedOut, innerFrom, innerOf}
+use Rattle.recording_calls.specs.Recordings.{recordedCode, recordedOut, playedCode, playedOut, innerOf}
 use Rattle.c_face.specs.Face.{entries, streamIn, freshCode, freshState, stepState, stepCode as stateCode, stepOut as stateOut}
 use Rattle.text.specs.Number.{isNumber, value}
 use Rattle.text.specs.Lines.{lines, remainder}
@@ -34,21 +34,21 @@ use Rattle.listing.specs.Verdicts.{limit}
 use Rattle.listing.specs.Print.{refusal}
 use Rattle.listing.specs.Listing.{returnedHops, table, listing}
 use Rattle.listing.specs.SizeLaws.{room}
-use Rattle.demands.specs.Steps.{Offer, Turn, Entry, turns, final, Recording, InOrder, Returned, Sharper}
+use Rattle.demands.specs.Steps.{Offer, Turn, Entry, turns, final, Recording, InOrder, Returned, WholeReturned, Sharper}
 use Rattle.demands.specs.Chains.{calls, held}
 use Rattle.demands.specs.Recordings.{ByOneCall, BlockByBlock, Back, SharperBack, offering, outputs}
 
--- ================ DEMAND 1: the whole work, or the numbered refusal of document 01, with stream and buffers as they were
--- the causes of document 01's table, in words of the input
+-- ================ DEMAND 1: the whole work, or the numbered refusal of document 01, for recordings as document 02, P1, has it, with stream and buffers as they were
+-- the causes of the table, in words of the input
 abbrev pub Tabled : ℕ → Type 0
 Tabled N = T (tabled N)
 
 abbrev pub Offered : Route → ℕ → Type 0
 Offered route N = T (offered route N)
 
-pub record Counted (B : ℕ) : Type 0 where
-  pub some : 1 ≤ B
-  pub most : B ≤ blockLimit
+pub record Counted (H : ℕ) : Type 0 where
+  pub some : 1 ≤ H
+  pub most : H ≤ hopLimit
 
 pub record InRange (x : List ℤ) : Type 0 where
   pub each : (k : ℕ) → k < length x → natAbs (at x k) ≤ coefficientLimit
@@ -94,35 +94,31 @@ pub record PlaceAnswers (N : ℕ) (tail x out : List ℤ) : Type 0 where
   pub kept-tail : placeCode N tail x out ≢ 0 → placeTail N tail x out ≡ tail
   pub kept : placeCode N tail x out ≢ 0 → placeOut N tail x out ≡ out
 
--- `analyse_recording`, by either route
-pub record RecordedAnswers (route : Route) (N B : ℕ) (x out : List ℤ) : Type 0 where
-  pub one : ¬ Offered route N → recordedCode route N B x out ≡ 1
-  pub two-blocks : Offered route N → ¬ Counted B → recordedCode route N B x out ≡ 2
-  pub two-in : Offered route N → length x ≢ (B + 1) * (N / 2) → recordedCode route N B x out ≡ 2
-  pub two-out : Offered route N → length out ≢ B * (N / 2) → recordedCode route N B x out ≡ 2
-  pub taken : Offered route N → Counted B → length x ≡ (B + 1) * (N / 2) → length out ≡ B * (N / 2) → recordedCode route N B x out ≡ 0
-  pub kept : recordedCode route N B x out ≢ 0 → recordedOut route N B x out ≡ out
+-- `analyse_recording`, by either route: H × M samples in, the (H + 1) × M coefficients of all blocks out
+pub record RecordedAnswers (route : Route) (N H : ℕ) (x out : List ℤ) : Type 0 where
+  pub one : ¬ Offered route N → recordedCode route N H x out ≡ 1
+  pub two-hops : Offered route N → ¬ Counted H → recordedCode route N H x out ≡ 2
+  pub two-in : Offered route N → length x ≢ H * (N / 2) → recordedCode route N H x out ≡ 2
+  pub two-out : Offered route N → length out ≢ (H + 1) * (N / 2) → recordedCode route N H x out ≡ 2
+  pub taken : Offered route N → Counted H → length x ≡ H * (N / 2) → length out ≡ (H + 1) * (N / 2) → recordedCode route N H x out ≡ 0
+  pub kept : recordedCode route N H x out ≢ 0 → recordedOut route N H x out ≡ out
 
--- `synthesise_recording`
-pub record PlayedAnswers (N B : ℕ) (x out : List ℤ) : Type 0 where
-  pub one : ¬ Tabled N → playedCode N B x out ≡ 1
-  pub two-blocks : Tabled N → ¬ Counted B → playedCode N B x out ≡ 2
-  pub two-in : Tabled N → length x ≢ B * (N / 2) → playedCode N B x out ≡ 2
-  pub two-out : Tabled N → length out ≢ B * (N / 2) → playedCode N B x out ≡ 2
-  pub three : Tabled N → Counted B → length x ≡ B * (N / 2) → length out ≡ B * (N / 2) → ¬ InRange x → playedCode N B x out ≡ 3
-  pub taken : Tabled N → Counted B → length x ≡ B * (N / 2) → length out ≡ B * (N / 2) → InRange x → playedCode N B x out ≡ 0
-  pub kept : playedCode N B x out ≢ 0 → playedOut N B x out ≡ out
+-- `synthesise_recording`: the other way round
+pub record PlayedAnswers (N H : ℕ) (x out : List ℤ) : Type 0 where
+  pub one : ¬ Tabled N → playedCode N H x out ≡ 1
+  pub two-hops : Tabled N → ¬ Counted H → playedCode N H x out ≡ 2
+  pub two-in : Tabled N → length x ≢ (H + 1) * (N / 2) → playedCode N H x out ≡ 2
+  pub two-out : Tabled N → length out ≢ H * (N / 2) → playedCode N H x out ≡ 2
+  pub three : Tabled N → Counted H → length x ≡ (H + 1) * (N / 2) → length out ≡ H * (N / 2) → ¬ InRange x → playedCode N H x out ≡ 3
+  pub taken : Tabled N → Counted H → length x ≡ (H + 1) * (N / 2) → length out ≡ H * (N / 2) → InRange x → playedCode N H x out ≡ 0
+  pub kept : playedCode N H x out ≢ 0 → playedOut N H x out ≡ out
 
--- `inner`: the part, and the place where it starts. The buffer is lent to be read, so it is as it was
-pub record Empty (N B : ℕ) (out : List ℤ) : Type 0 where
-  pub holds : innerOf N B out ≡ []
-  pub starts : innerFrom N B (length out) ≡ 0
-
-pub record InnerAnswers (N B : ℕ) (out : List ℤ) : Type 0 where
-  pub empty-n : ¬ Tabled N → Empty N B out
-  pub empty-blocks : ¬ Counted B → Empty N B out
-  pub empty-long : length out ≢ B * (N / 2) → Empty N B out
-  pub part : Tabled N → Counted B → length out ≡ B * (N / 2) → (innerOf N B out ≡ drop (N / 2) out) × (innerFrom N B (length out) ≡ N / 2)
+-- `inner`: what the part holds. Its contract says that it starts where the buffer does; the buffer is lent to be read, so it is as it was
+pub record InnerAnswers (N H : ℕ) (out : List ℤ) : Type 0 where
+  pub empty-n : ¬ Tabled N → innerOf N H out ≡ []
+  pub empty-hops : ¬ Counted H → innerOf N H out ≡ []
+  pub empty-long : length out ≢ H * (N / 2) → innerOf N H out ≡ []
+  pub whole : Tabled N → Counted H → length out ≡ H * (N / 2) → innerOf N H out ≡ out
 
 -- the calls for C. Those on blocks and on whole recordings answer as those above: their contracts are the same definitions at a route by name.
 -- `dapplescree_stream_fresh`: taken, the state holds the stream that `fresh` makes
@@ -175,14 +171,14 @@ pub record Demand-1 : Type 0 where
   pub made : (N : ℕ) → FreshAnswers N
   pub stepped : (s : Stream) (x out : List ℤ) → StepAnswers s x out
   pub placed : (N : ℕ) (tail x out : List ℤ) → PlaceAnswers N tail x out
-  pub recorded : (route : Route) (N B : ℕ) (x out : List ℤ) → RecordedAnswers route N B x out
-  pub played : (N B : ℕ) (x out : List ℤ) → PlayedAnswers N B x out
-  pub inner : (N B : ℕ) (out : List ℤ) → InnerAnswers N B out
+  pub recorded : (route : Route) (N H : ℕ) (x out : List ℤ) → RecordedAnswers route N H x out
+  pub played : (N H : ℕ) (x out : List ℤ) → PlayedAnswers N H x out
+  pub inner : (N H : ℕ) (out : List ℤ) → InnerAnswers N H out
   pub state-made : (N : ℕ) (state : List ℤ) → StateFreshAnswers N state
   pub state-stepped : (state x out : List ℤ) → StateStepAnswers state x out
   pub listed : (text : List ℕ) → ListingAnswers text
 
--- ================ DEMAND 2: every coefficient and every sample is document 01's
+-- ================ DEMAND 2: every coefficient and every sample is document 01's, of a recording between the two hops of zeros of document 02, P1
 -- y(n) = rnd(W(n) × x(n) / 2^18)
 abbrev pub y : ℕ → List ℤ → ℕ → ℤ
 y N x n = rnd (W N n *ℤ at x n) (2 ^ 18)
@@ -213,35 +209,40 @@ pub record Stepped-on (s : Stream) (x out : List ℤ) : Type 0 where
   pub storage : drop (s .n / 2) (step s x out .stream .tail) ≡ drop (s .n / 2) (s .tail)
 
 -- the calls over recordings are the single-block calls and the stream, block by block
-pub record Recorded-on (route : Route) (N B : ℕ) (x out : List ℤ) : Type 0 where
-  pub long : length (recordedOut route N B x out) ≡ B * (N / 2)
-  pub each : (b : ℕ) → b < B → (room : List ℤ) → length room ≡ N / 2 →
-      (analyseCode route N (block N x b) room ≡ 0) × (part N (recordedOut route N B x out) b ≡ analyseOut route N (block N x b) room)
+pub record Recorded-on (route : Route) (N H : ℕ) (x out : List ℤ) : Type 0 where
+  pub long : length (recordedOut route N H x out) ≡ (H + 1) * (N / 2)
+  pub each : (b : ℕ) → b ≤ H → (room : List ℤ) → length room ≡ N / 2 →
+      (analyseCode route N (block N x b) room ≡ 0) × (part N (recordedOut route N H x out) b ≡ analyseOut route N (block N x b) room)
 
-pub record Played-on (N B : ℕ) (x out : List ℤ) (rooms : ℕ → List ℤ) : Type 0 where
-  pub taken : (i : ℕ) (t : Turn) → Entry (turns N (offering N x rooms 0 B)) i t → t .answer .code ≡ 0
-  pub hops : playedOut N B x out ≡ outputs (turns N (offering N x rooms 0 B))
+-- every block is taken; what comes back is what the steps return, without the run-in
+pub record Played-on (N H : ℕ) (x out : List ℤ) (rooms : ℕ → List ℤ) : Type 0 where
+  pub taken : (i : ℕ) (t : Turn) → Entry (turns N (offering N x rooms 0 (H + 1))) i t → t .answer .code ≡ 0
+  pub hops : playedOut N H x out ≡ drop (N / 2) (outputs (turns N (offering N x rooms 0 (H + 1))))
 
 pub record Demand-2 : Type 0 where
   pub analysed : (route : Route) (N : ℕ) (x out : List ℤ) → analyseCode route N x out ≡ 0 → length (analyseOut route N x out) ≡ N / 2
   pub coefficient : (N : ℕ) (x out : List ℤ) (k : ℕ) → k < N / 2 → Analysed N x out k
   pub stepped : (s : Stream) (x out : List ℤ) → stepCode s x out ≡ 0 → Stepped-on s x out
-  pub recorded : (route : Route) (N B : ℕ) (x out : List ℤ) → recordedCode route N B x out ≡ 0 → Recorded-on route N B x out
-  pub played : (N B : ℕ) (x out : List ℤ) → playedCode N B x out ≡ 0 → (rooms : ℕ → List ℤ) → ((b : ℕ) → b < B → length (rooms b) ≡ N / 2) → Played-on N B x out rooms
+  pub recorded : (route : Route) (N H : ℕ) (x out : List ℤ) → recordedCode route N H x out ≡ 0 → Recorded-on route N H x out
+  pub played : (N H : ℕ) (x out : List ℤ) → playedCode N H x out ≡ 0 → (rooms : ℕ → List ℤ) → ((b : ℕ) → b ≤ H → length (rooms b) ≡ N / 2) → Played-on N H x out rooms
 
 -- ================ DEMAND 3: sound there and back
 pub record Demand-3 : Type 0 where
-  -- the list of steps: any recording of two hops or more, any offers, refused ones anywhere, a route for each block, any Q
+  -- the list of steps: any recording of a hop or more, any offers, refused ones anywhere, a route for each block, any Q
   pub list : (N : ℕ) → Tabled N → (H Q : ℕ) (routes : ℕ → Route) (x : List ℤ) → Recording N H x → (offers : List Offer) → InOrder N H Q routes x (turns N offers) →
       Returned N Q routes x (turns N offers) (final N offers)
+  -- and once all H + 1 blocks are taken, every sample of the recording
+  pub whole : (N : ℕ) → Tabled N → (H Q : ℕ) (routes : ℕ → Route) (x : List ℤ) → Recording N H x → (offers : List Offer) → InOrder N H Q routes x (turns N offers) →
+      WholeReturned N H Q routes x (turns N offers)
   -- the same for the calls for C on one state
   pub calls : (N : ℕ) (state : List ℤ) → freshCode N state ≡ 0 → (H Q : ℕ) (routes : ℕ → Route) (x : List ℤ) → Recording N H x → (offers : List Offer) →
-      InOrder N H Q routes x (calls (freshState N state) offers) → Returned N Q routes x (calls (freshState N state) offers) (held (freshState N state) offers)
+      InOrder N H Q routes x (calls (freshState N state) offers) →
+      Returned N Q routes x (calls (freshState N state) offers) (held (freshState N state) offers) × WholeReturned N H Q routes x (calls (freshState N state) offers)
   -- the calls over whole recordings: analysed by one call, and block by block
-  pub once : (N B Q : ℕ) (route : Route) (x c out : List ℤ) → ((i : ℕ) → i < length x → Sample (at x i)) → ByOneCall N B Q route x c → playedCode N B c out ≡ 0 →
-      Back N B Q (λ b. route) x (playedOut N B c out)
-  pub blocks : (N B Q : ℕ) (routes : ℕ → Route) (x c out : List ℤ) → Recording N (B + 1) x → BlockByBlock N B Q routes x c → playedCode N B c out ≡ 0 →
-      Back N B Q routes x (playedOut N B c out)
+  pub once : (N H Q : ℕ) (route : Route) (x c out : List ℤ) → ((i : ℕ) → i < length x → Sample (at x i)) → ByOneCall N H Q route x c → playedCode N H c out ≡ 0 →
+      Back N H Q (λ b. route) x (playedOut N H c out)
+  pub blocks : (N H Q : ℕ) (routes : ℕ → Route) (x c out : List ℤ) → Recording N H x → BlockByBlock N H Q routes x c → playedCode N H c out ≡ 0 →
+      Back N H Q routes x (playedOut N H c out)
 
 -- ================ BEYOND DEMAND 3: each sample within (3 Q + 36) / 64, equal up to Q = 9, with Q + 7 for Q after the short route
 pub record Beyond : Type 0 where
@@ -249,7 +250,7 @@ pub record Beyond : Type 0 where
       Sharper N Q routes x (turns N offers)
   pub calls : (N : ℕ) (state : List ℤ) → freshCode N state ≡ 0 → (H Q : ℕ) (routes : ℕ → Route) (x : List ℤ) → Recording N H x → (offers : List Offer) →
       InOrder N H Q routes x (calls (freshState N state) offers) → Sharper N Q routes x (calls (freshState N state) offers)
-  pub once : (N B Q : ℕ) (route : Route) (x c out : List ℤ) → ((i : ℕ) → i < length x → Sample (at x i)) → ByOneCall N B Q route x c → playedCode N B c out ≡ 0 →
-      SharperBack N B Q (λ b. route) x (playedOut N B c out)
-  pub blocks : (N B Q : ℕ) (routes : ℕ → Route) (x c out : List ℤ) → Recording N (B + 1) x → BlockByBlock N B Q routes x c → playedCode N B c out ≡ 0 →
-      SharperBack N B Q routes x (playedOut N B c out)
+  pub once : (N H Q : ℕ) (route : Route) (x c out : List ℤ) → ((i : ℕ) → i < length x → Sample (at x i)) → ByOneCall N H Q route x c → playedCode N H c out ≡ 0 →
+      SharperBack N H Q (λ b. route) x (playedOut N H c out)
+  pub blocks : (N H Q : ℕ) (routes : ℕ → Route) (x c out : List ℤ) → Recording N H x → BlockByBlock N H Q routes x c → playedCode N H c out ≡ 0 →
+      SharperBack N H Q routes x (playedOut N H c out)

@@ -1,5 +1,5 @@
--- One list of steps at N = 12: a recording, its blocks as they are brought, and what is offered, refused steps among it; and the same blocks for the calls
--- over whole recordings. ExampleLaws applies the theorems to them.
+-- Two lists of steps at N = 12: a recording of three hops and one of a single hop, their blocks as they are brought, and what is offered, refused steps
+-- among it; and the same blocks for the calls over whole recordings. ExampleLaws applies the theorems to them.
 use mathlib.Core.List.{List, [], _∷_, _++_}
 use Prim.Native.Nat.{ℕ, zero, suc}
 use lib.IntN.{ℤ, pos, negℤ, _+ℤ_}
@@ -10,19 +10,26 @@ use Rattle.demands.specs.Steps.{Offer}
 abbrev pub minus : ℕ → ℤ
 minus n = negℤ (pos n)
 
--- four hops, so three blocks
+-- three hops, so four blocks
 unfoldable pub recording : List ℤ
 recording =
-    pos 0 ∷ pos 0 ∷ pos 0 ∷ pos 0 ∷ pos 0 ∷ pos 0 ∷
     pos 7 ∷ minus 8 ∷ pos 32767 ∷ minus 32768 ∷ pos 1 ∷ pos 0 ∷
     pos 5 ∷ pos 5 ∷ pos 5 ∷ pos 5 ∷ pos 5 ∷ pos 5 ∷
     minus 32768 ∷ pos 32767 ∷ minus 12345 ∷ minus 12345 ∷ minus 20000 ∷ pos 32767 ∷ []
 
--- blocks 0 and 1 take the direct route, block 2 the short one
+-- block 2 takes the short route, the others the direct one
 unfoldable pub routes : ℕ → Route
 routes zero = Direct
 routes (suc zero) = Direct
-routes (suc (suc b)) = Short
+routes (suc (suc zero)) = Short
+routes (suc (suc (suc b))) = Direct
+
+-- its first hop alone is a recording of one hop, so of two blocks, both by the direct route
+unfoldable pub knock : List ℤ
+knock = pos 7 ∷ minus 8 ∷ pos 32767 ∷ minus 32768 ∷ pos 1 ∷ pos 0 ∷ []
+
+unfoldable pub directly : ℕ → Route
+directly b = Direct
 
 -- ---- the blocks: coefficients, and their changes
 unfoldable pub changed : List ℤ → List ℤ → List ℤ
@@ -46,7 +53,18 @@ block-2 = changed
     (pos 1193024 ∷ minus 221015 ∷ minus 357355 ∷ pos 1775980 ∷ pos 3429527 ∷ pos 1797802 ∷ [])
     (pos 1 ∷ pos 0 ∷ minus 7 ∷ pos 7 ∷ minus 4 ∷ pos 2 ∷ [])
 
--- ---- the list
+unfoldable pub block-3 : List ℤ
+block-3 = changed
+    (minus 653647 ∷ pos 283986 ∷ pos 2229876 ∷ minus 3208115 ∷ pos 275489 ∷ pos 3556052 ∷ [])
+    (pos 7 ∷ pos 7 ∷ minus 7 ∷ pos 2 ∷ pos 0 ∷ minus 6 ∷ [])
+
+-- block 0 of the single hop is block 0 above; behind it come zeros
+unfoldable pub knock-1 : List ℤ
+knock-1 = changed
+    (pos 383738 ∷ minus 1125064 ∷ pos 1789764 ∷ minus 2332627 ∷ pos 2716659 ∷ minus 2915535 ∷ [])
+    (minus 1 ∷ pos 7 ∷ pos 7 ∷ minus 7 ∷ pos 4 ∷ pos 0 ∷ [])
+
+-- ---- the lists
 -- a buffer of six, and one of five
 unfoldable pub room : List ℤ
 room = pos 9 ∷ pos 9 ∷ pos 9 ∷ pos 9 ∷ pos 9 ∷ pos 9 ∷ []
@@ -68,11 +86,19 @@ abbrev pub offer : List ℤ → List ℤ → Offer
 offer coefficients buffer = record { brought = coefficients; buffer = buffer }
 
 unfoldable pub offers : List Offer
-offers = offer five room ∷ offer block-0 room ∷ offer loud room ∷ offer block-1 room ∷ offer block-2 small-room ∷ offer block-2 room ∷ offer low room ∷ []
+offers =
+    offer five room ∷ offer block-0 room ∷ offer loud room ∷ offer block-1 room ∷ offer block-2 small-room ∷ offer block-2 room ∷
+    offer low room ∷ offer block-3 room ∷ offer loud room ∷ []
+
+unfoldable pub knock-offers : List Offer
+knock-offers = offer block-0 room ∷ offer loud room ∷ offer knock-1 room ∷ []
 
 -- ---- the same blocks for the calls over whole recordings: their coefficients one after the other, and a buffer for the samples
 unfoldable pub whole : List ℤ
-whole = block-0 ++ block-1 ++ block-2
+whole = block-0 ++ block-1 ++ block-2 ++ block-3
 
 unfoldable pub hops-room : List ℤ
 hops-room = room ++ room ++ room
+
+unfoldable pub knock-whole : List ℤ
+knock-whole = block-0 ++ knock-1

@@ -1,9 +1,9 @@
--- The theorems `there-and-back` and `back-block-by-block` applied to Example, so that nobody has to believe that their hypotheses can be met. They
--- are computed from the definitions, the cosine from its series.
+-- The theorems `there-and-back`, `whole-returned`, `back-block-by-block` and `back-by-one-call` applied to Example, so that nobody has to believe that
+-- their hypotheses can be met. They are computed from the definitions, the cosine from its series.
 use mathlib.Core.Path.{_≡_, refl, sym, _∙_}
 use mathlib.Core.Bool.{Bool, false, cond}
-use mathlib.Core.List.{List, [], _∷_}
-use Prim.Native.Nat.{ℕ, _+_, _*_, _≤_, _<_}
+use mathlib.Core.List.{List, [], _∷_, _++_}
+use Prim.Native.Nat.{ℕ, suc, _+_, _*_, _/_, _%_, _≤_, _<_}
 use native.Mathlib.Omega.{arith}
 use lib.Dec.{T, eqb, eqb→eq, leb, leb→le, lit<, lit≤}
 use lib.ListN.{length, take, drop, replicate, getD-replicate}
@@ -20,24 +20,27 @@ use Rattle.transform.specs.Analysis.{window, y, S, X, direct}
 use Rattle.split.specs.ShortRoute as R
 use Rattle.transform.specs.Synthesis.{U, V′}
 use Rattle.stream.specs.Synthesis as Y
+use Rattle.analysis.specs.declared.Route.{Route}
+use Rattle.analysis.specs.declared.Route.the-variants.{Direct}
 use Rattle.analysis.specs.Analysis.{offered, spectrum, coefficients}
-use Rattle.recording.specs.Recordings.{block}
+use Rattle.recording.specs.Recordings.{joined, silence, padded, standing, block}
+use Rattle.recording.specs.Recordings.{analysis as recordingOf}
 use Rattle.stream.specs.Steps.{next, hop}
 use Rattle.checks.specs.Causes.{firstCause}
 use Rattle.block_calls.specs.Analysis.{analyseCauses, analyseCode, analyseOut}
 use Rattle.checks.specs.Limits.{counted, within, tailLimit, inRange}
-use Rattle.recording_calls.specs.Recordings.{playedCauses, playedCode, playedOut}
+use Rattle.recording_calls.specs.Recordings.{recordedCauses, recordedCode, recordedOut, playedCauses, playedCode, playedOut}
 use Rattle.stream_calls.specs.Streams.{fresh, soundTail, sound, stepCauses, stepCode, step, stepOut}
 use Rattle.c_face.specs.Face.{entries, freshCauses, freshCode, freshState}
-use Rattle.demands.specs.Steps.{Offer, Turn, answered, run, taken, offers-of, turns, final, Entry, Recording, Brought, InOrder, unitsOf, change, Returned, Sharper}
+use Rattle.demands.specs.Steps.{Offer, Turn, answered, run, taken, offers-of, turns, final, Entry, Recording, Brought, InOrder, unitsOf, change, Returned, WholeReturned, Sharper}
 use Rattle.demands.specs.Steps.Entry.{first, later}
 use Rattle.demands.specs.RunLaws.{no-entry, entry-offer, entry-turn}
-use Rattle.demands.specs.Recordings.{BlockByBlock, Back}
+use Rattle.demands.specs.Recordings.{ByOneCall, BlockByBlock, Back}
 use Rattle.demands.specs.Chains.{calls, held}
-use Rattle.demands.specs.ThereAndBackLaws.{there-and-back, there-and-back-sharper}
-use Rattle.demands.specs.ChainLaws.{fresh-calls, calls-there-and-back}
-use Rattle.demands.specs.BackLaws.{back-block-by-block}
-use Rattle.demands.specs.Example.{minus, recording, routes, changed, block-0, block-1, block-2, room, small-room, five, loud, low, offer, offers, whole, hops-room}
+use Rattle.demands.specs.ThereAndBackLaws.{there-and-back, whole-returned, there-and-back-sharper}
+use Rattle.demands.specs.ChainLaws.{fresh-calls, calls-there-and-back, calls-whole}
+use Rattle.demands.specs.BackLaws.{back-by-one-call, back-block-by-block}
+use Rattle.demands.specs.Example.{minus, recording, routes, knock, directly, changed, block-0, block-1, block-2, block-3, knock-1, room, small-room, five, loud, low, offer, offers, knock-offers, whole, hops-room, knock-whole}
 
 -- ---- the definitions that the tests below open, under one name
 cosines : Unit {0}
@@ -53,7 +56,7 @@ unfolding U V′ Y.fresh Y.sample Y.hop Y.newTail within tailLimit fresh soundTa
 synthesis = tt
 
 example : Unit {0}
-unfolding answered run taken offers-of turns block recording routes changed block-0 block-1 block-2 room small-room five loud low offers
+unfolding answered run taken offers-of turns silence padded standing block recording routes knock directly changed block-0 block-1 block-2 block-3 knock-1 room small-room five loud low offers knock-offers
 example = tt
 
 computed : Unit {0}
@@ -61,7 +64,7 @@ unfolding floor rnd clamp sum table all every cosines analysis synthesis example
 computed = tt
 
 answers : Unit {0}
-unfolding computed R.offered offered analyseCauses analyseCode analyseOut counted playedCauses playedCode whole hops-room
+unfolding computed R.offered offered analyseCauses analyseCode analyseOut counted joined recordedCauses recordedCode recordedOut recordingOf playedCauses playedCode whole hops-room knock-whole
 answers = tt
 
 -- the numbers that the steps return
@@ -69,67 +72,108 @@ codes-of : List Turn → List ℕ
 codes-of [] = []
 codes-of (t ∷ ts) = t .answer .code ∷ codes-of ts
 
-codes : codes-of (turns 12 offers) ≡ 2 ∷ 0 ∷ 3 ∷ 0 ∷ 2 ∷ 0 ∷ 3 ∷ []
+codes : codes-of (turns 12 offers) ≡ 2 ∷ 0 ∷ 3 ∷ 0 ∷ 2 ∷ 0 ∷ 3 ∷ 0 ∷ 3 ∷ []
 unfolding computed codes-of
 codes = refl
 
 -- what was offered at the taken ones
-taken-offers : offers-of (taken (turns 12 offers)) ≡ offer block-0 room ∷ offer block-1 room ∷ offer block-2 room ∷ []
+abbrev brought-offers : List Offer
+brought-offers = offer block-0 room ∷ offer block-1 room ∷ offer block-2 room ∷ offer block-3 room ∷ []
+
+taken-offers : offers-of (taken (turns 12 offers)) ≡ brought-offers
 unfolding computed
 taken-offers = refl
 
--- ---- the recording
+abbrev knock-brought : List Offer
+knock-brought = offer block-0 room ∷ offer knock-1 room ∷ []
+
+knock-taken : offers-of (taken (turns 12 knock-offers)) ≡ knock-brought
+unfolding computed
+knock-taken = refl
+
+-- ---- the recordings
 is-sample : ℤ → Bool
 is-sample z = cond (leZ least z) (leZ z largest) false
+
+recorded-of : (H : ℕ) (x : List ℤ) → 1 ≤ H → length x ≡ H * 6 → T (all (length x) (λ i. is-sample (at x i))) → Recording 12 H x
+unfolding is-sample
+recorded-of H x some long samples = record {
+  hops = some;
+  long = long;
+  sample = λ i p.
+      let t : T (is-sample (at x i)) = all-at (length x) (λ i. is-sample (at x i)) samples i p in
+      record {
+        low = leZ-yes (both-left (leZ least (at x i)) (leZ (at x i) largest) t);
+        high = leZ-yes (both-right (leZ least (at x i)) (leZ (at x i) largest) t);
+      };
+}
 
 samples : T (all (length recording) (λ i. is-sample (at recording i)))
 unfolding computed is-sample
 samples = tt
 
-recorded : Recording 12 4 recording
-unfolding is-sample
-recorded = record {
-  hops = lit≤ tt;
-  long = unfold recording in refl;
-  sample = λ i p.
-      let t : T (is-sample (at recording i)) = all-at (length recording) (λ i. is-sample (at recording i)) samples i p in
-      record {
-        low = leZ-yes (both-left (leZ least (at recording i)) (leZ (at recording i) largest) t);
-        high = leZ-yes (both-right (leZ least (at recording i)) (leZ (at recording i) largest) t);
-      };
-}
+recorded : Recording 12 3 recording
+recorded = recorded-of 3 recording (lit≤ tt) (unfold recording in refl) samples
+
+knock-samples : T (all (length knock) (λ i. is-sample (at knock i)))
+unfolding computed is-sample
+knock-samples = tt
+
+knock-recorded : Recording 12 1 knock
+knock-recorded = recorded-of 1 knock (lit≤ tt) (unfold knock in refl) knock-samples
 
 -- ---- the blocks: each of the six coefficients is within 7 of what the block's own route gives
-near : ℕ → List ℤ → Bool
-near b c = all 6 (λ k. leb (natAbs (at c k -ℤ at (coefficients (routes b) 12 (block 12 recording b)) k)) 7)
+near : (ℕ → Route) → List ℤ → ℕ → List ℤ → Bool
+near routes x b c = all 6 (λ k. leb (natAbs (at c k -ℤ at (coefficients (routes b) 12 (block 12 x b)) k)) 7)
 
-near-0 : T (near 0 block-0)
+near-0 : T (near routes recording 0 block-0)
 unfolding computed near
 near-0 = tt
 
-near-1 : T (near 1 block-1)
+near-1 : T (near routes recording 1 block-1)
 unfolding computed near
 near-1 = tt
 
-near-2 : T (near 2 block-2)
+near-2 : T (near routes recording 2 block-2)
 unfolding computed near
 near-2 = tt
 
-brought : (b : ℕ) (c : List ℤ) → b + 1 < 4 → T (offered (routes b) 12) → length c ≡ 6 → T (near b c) → Brought 12 4 7 routes recording b c
-unfolding near
-brought b c p o e t =
-    let off : ℕ → ℕ = λ k. natAbs (at c k -ℤ at (coefficients (routes b) 12 (block 12 recording b)) k) in
-    record { covered = p; offers = o; long = e; near = λ k q. leb→le (off k) 7 (all-at 6 (λ k. leb (off k) 7) t k q) }
+near-3 : T (near routes recording 3 block-3)
+unfolding computed near
+near-3 = tt
 
--- the taken steps bring blocks 0, 1 and 2
-in-order : InOrder 12 4 7 routes recording (turns 12 offers)
+knock-near-0 : T (near directly knock 0 block-0)
+unfolding computed near
+knock-near-0 = tt
+
+knock-near-1 : T (near directly knock 1 knock-1)
+unfolding computed near
+knock-near-1 = tt
+
+brought : (routes : ℕ → Route) (H : ℕ) (x : List ℤ) (b : ℕ) (c : List ℤ) → b ≤ H → T (offered (routes b) 12) → length c ≡ 6 → T (near routes x b c) → Brought 12 H 7 routes x b c
+unfolding near
+brought routes H x b c p o e t =
+    let off : ℕ → ℕ = λ k. natAbs (at c k -ℤ at (coefficients (routes b) 12 (block 12 x b)) k) in
+    record { exists = p; offers = o; long = e; near = λ k q. leb→le (off k) 7 (all-at 6 (λ k. leb (off k) 7) t k q) }
+
+-- the taken steps bring blocks 0 to 3
+in-order : InOrder 12 3 7 routes recording (turns 12 offers)
 in-order = record { each = λ j t e. go (rw taken-offers at (entry-offer e)) }
   where
-    go : {j : ℕ} {o : Offer} → Entry (offer block-0 room ∷ offer block-1 room ∷ offer block-2 room ∷ []) j o → Brought 12 4 7 routes recording j (o .brought)
-    go first = brought 0 block-0 (lit< tt) (unfold answers in tt) (unfold computed in refl) near-0
-    go (later first) = brought 1 block-1 (lit< tt) (unfold answers in tt) (unfold computed in refl) near-1
-    go (later (later first)) = brought 2 block-2 (lit< tt) (unfold answers in tt) (unfold computed in refl) near-2
-    go (later (later (later e))) = absurd (no-entry e refl)
+    go : {j : ℕ} {o : Offer} → Entry brought-offers j o → Brought 12 3 7 routes recording j (o .brought)
+    go first = brought routes 3 recording 0 block-0 (lit≤ tt) (unfold answers in tt) (unfold computed in refl) near-0
+    go (later first) = brought routes 3 recording 1 block-1 (lit≤ tt) (unfold answers in tt) (unfold computed in refl) near-1
+    go (later (later first)) = brought routes 3 recording 2 block-2 (lit≤ tt) (unfold answers in tt) (unfold computed in refl) near-2
+    go (later (later (later first))) = brought routes 3 recording 3 block-3 (lit≤ tt) (unfold answers in tt) (unfold computed in refl) near-3
+    go (later (later (later (later e)))) = absurd (no-entry e refl)
+
+knock-order : InOrder 12 1 7 directly knock (turns 12 knock-offers)
+knock-order = record { each = λ j t e. go (rw knock-taken at (entry-offer e)) }
+  where
+    go : {j : ℕ} {o : Offer} → Entry knock-brought j o → Brought 12 1 7 directly knock j (o .brought)
+    go first = brought directly 1 knock 0 block-0 (lit≤ tt) (unfold answers in tt) (unfold computed in refl) knock-near-0
+    go (later first) = brought directly 1 knock 1 knock-1 (lit≤ tt) (unfold answers in tt) (unfold computed in refl) knock-near-1
+    go (later (later e)) = absurd (no-entry e refl)
 
 -- ---- the theorem
 twelve : T (tabled 12)
@@ -137,11 +181,32 @@ unfolding computed
 twelve = tt
 
 pub returned : Returned 12 7 routes recording (turns 12 offers) (final 12 offers)
-returned = there-and-back 12 twelve 4 7 routes recording recorded offers in-order
+returned = there-and-back 12 twelve 3 7 routes recording recorded offers in-order
+
+pub knock-returned : Returned 12 7 directly knock (turns 12 knock-offers) (final 12 knock-offers)
+knock-returned = there-and-back 12 twelve 1 7 directly knock knock-recorded knock-offers knock-order
 
 -- and beyond what is asked
 pub sharper : Sharper 12 7 routes recording (turns 12 offers)
-sharper = there-and-back-sharper 12 twelve 4 7 routes recording recorded offers in-order
+sharper = there-and-back-sharper 12 twelve 3 7 routes recording recorded offers in-order
+
+-- ---- all blocks are taken, so every sample has returned
+pub all-taken : length (taken (turns 12 offers)) ≡ 4
+unfolding computed
+all-taken = refl
+
+pub every-sample : (i : ℕ) → i < 18 → (t : Turn) × Entry (taken (turns 12 offers)) (suc (i / 6)) t ×
+    (natAbs (at (t .output) (i % 6) -ℤ at recording i) ≤ (change 7 (routes (i / 6)) (routes (suc (i / 6))) + 8) / 16)
+every-sample = whole-returned 12 twelve 3 7 routes recording recorded offers in-order .near all-taken
+
+pub knock-all-taken : length (taken (turns 12 knock-offers)) ≡ 2
+unfolding computed
+knock-all-taken = refl
+
+-- and each of the six samples of the single hop as it was
+pub knock-back : (i : ℕ) → i < 6 → (t : Turn) × Entry (taken (turns 12 knock-offers)) (suc (i / 6)) t × (at (t .output) (i % 6) ≡ at knock i)
+unfolding directly
+knock-back i p = whole-returned 12 twelve 1 7 directly knock knock-recorded knock-offers knock-order .same knock-all-taken (lit≤ tt) i p refl refl
 
 -- ---- the same offers to the calls for C, on a state that held nines
 pub nines : List ℤ
@@ -152,7 +217,10 @@ unfolding answers freshCauses freshCode nines
 made = refl
 
 pub on-a-state : Returned 12 7 routes recording (calls (freshState 12 nines) offers) (held (freshState 12 nines) offers)
-on-a-state = calls-there-and-back 12 nines made offers 4 7 routes recording recorded (rw (fresh-calls 12 nines made offers) in-order)
+on-a-state = calls-there-and-back 12 nines made offers 3 7 routes recording recorded (rw (fresh-calls 12 nines made offers) in-order)
+
+pub whole-on-a-state : WholeReturned 12 3 7 routes recording (calls (freshState 12 nines) offers)
+whole-on-a-state = calls-whole 12 nines made offers 3 7 routes recording recorded (rw (fresh-calls 12 nines made offers) in-order)
 
 -- ---- what it says of two of the taken steps
 -- the taken step j, at which o was offered, and what is claimed of its output
@@ -162,7 +230,7 @@ pub record TakenStep (j : ℕ) (o : Offer) (P : List ℤ → Type 0) : Type 0 wh
   pub offered : turn .offer ≡ o
   pub claim : P (turn .output)
 
-taken-step : (j : ℕ) (o : Offer) (P : List ℤ → Type 0) → Entry (offer block-0 room ∷ offer block-1 room ∷ offer block-2 room ∷ []) j o →
+taken-step : (j : ℕ) (o : Offer) (P : List ℤ → Type 0) → Entry brought-offers j o →
     ((t : Turn) → Entry (taken (turns 12 offers)) j t → P (t .output)) → TakenStep j o P
 taken-step j o P e f =
     let (t, g, h) = entry-turn (taken (turns 12 offers)) {i = j} {o = o} (rw taken-offers e) in
@@ -172,23 +240,23 @@ taken-step j o P e f =
 six-at : (m n : ℕ) → n < 6 → at recording (m + n) ≡ at (take 6 (drop m recording)) n
 six-at m n p = sym (getD-take 6 (drop m recording) n (pos 0) p ∙ getD-drop m recording n (pos 0))
 
--- the step that brings block 1 returns hop 1 of the recording, sample for sample
-pub hop-1 : TakenStep 1 (offer block-1 room) (λ out. out ≡ pos 7 ∷ minus 8 ∷ pos 32767 ∷ minus 32768 ∷ pos 1 ∷ pos 0 ∷ [])
+-- the step that brings block 1 returns hop 0 of the recording, sample for sample
+pub hop-0 : TakenStep 1 (offer block-1 room) (λ out. out ≡ pos 7 ∷ minus 8 ∷ pos 32767 ∷ minus 32768 ∷ pos 1 ∷ pos 0 ∷ [])
 unfolding recording routes
-hop-1 = taken-step 1 (offer block-1 room) (λ out. out ≡ take 6 (drop 6 recording)) (later first) go
+hop-0 = taken-step 1 (offer block-1 room) (λ out. out ≡ take 6 (drop 0 recording)) (later first) go
   where
-    go : (t : Turn) → Entry (taken (turns 12 offers)) 1 t → t .output ≡ take 6 (drop 6 recording)
+    go : (t : Turn) → Entry (taken (turns 12 offers)) 1 t → t .output ≡ take 6 (drop 0 recording)
     go t e =
         let l = returned .hop-long 1 t e in
-        ext-getD (pos 0) (t .output) (take 6 (drop 6 recording)) l (λ n p. returned .hop-same 0 t e (lit≤ tt) refl refl n (omega arith) ∙ six-at 6 n (omega arith))
+        ext-getD (pos 0) (t .output) (take 6 (drop 0 recording)) l (λ n p. returned .hop-same 0 t e (lit≤ tt) refl refl n (omega arith) ∙ six-at 0 n (omega arith))
 
--- the step that brings block 2, by the short route, returns hop 2 up to 1
-pub hop-2 : TakenStep 2 (offer block-2 room) (λ out. (n : ℕ) → n < 6 → natAbs (at out n -ℤ pos 5) ≤ 1)
+-- the step that brings block 2, by the short route, returns hop 1 up to 1
+pub hop-1 : TakenStep 2 (offer block-2 room) (λ out. (n : ℕ) → n < 6 → natAbs (at out n -ℤ pos 5) ≤ 1)
 unfolding recording routes unitsOf change
-hop-2 = taken-step 2 (offer block-2 room) (λ out. (n : ℕ) → n < 6 → natAbs (at out n -ℤ pos 5) ≤ 1) (later (later first))
-    (λ t e n p. rw (six-at 12 n p, getD-replicate 6 n (pos 5) (pos 0) p) at (returned .hop-near 1 t e n p))
+hop-1 = taken-step 2 (offer block-2 room) (λ out. (n : ℕ) → n < 6 → natAbs (at out n -ℤ pos 5) ≤ 1) (later (later first))
+    (λ t e n p. rw (six-at 6 n p, getD-replicate 6 n (pos 5) (pos 0) p) at (returned .hop-near 1 t e n p))
 
--- ---- the calls over whole recordings: three blocks, analysed one by one, the last by the short route
+-- ---- the calls over whole recordings: four blocks, analysed one by one, block 2 by the short route
 played : playedCode 12 3 whole hops-room ≡ 0
 unfolding answers
 played = refl
@@ -196,20 +264,47 @@ played = refl
 abbrev off : ℕ → ℕ → ℕ
 off b k = natAbs (at whole (b * 6 + k) -ℤ at (analyseOut (routes b) 12 (block 12 recording b) room) k)
 
-changes : T (all 3 (λ b. all 6 (λ k. leb (off b k) 7)))
+changes : T (all 4 (λ b. all 6 (λ k. leb (off b k) 7)))
 unfolding answers
 changes = tt
 
-analysed : T (all 3 (λ b. eqb (analyseCode (routes b) 12 (block 12 recording b) room) 0))
+analysed : T (all 4 (λ b. eqb (analyseCode (routes b) 12 (block 12 recording b) room) 0))
 unfolding answers
 analysed = tt
 
 by-blocks : BlockByBlock 12 3 7 routes recording whole
 by-blocks = record {
   buffer = λ b. room;
-  taken = λ b p. eqb→eq (analyseCode (routes b) 12 (block 12 recording b) room) 0 (all-at 3 (λ b. eqb (analyseCode (routes b) 12 (block 12 recording b) room) 0) analysed b p);
-  near = λ b p k q. leb→le (off b k) 7 (all-at 6 (λ k. leb (off b k) 7) (all-at 3 (λ b. all 6 (λ k. leb (off b k) 7)) changes b p) k q);
+  taken = λ b p. eqb→eq (analyseCode (routes b) 12 (block 12 recording b) room) 0
+      (all-at 4 (λ b. eqb (analyseCode (routes b) 12 (block 12 recording b) room) 0) analysed b (omega arith));
+  near = λ b p k q. leb→le (off b k) 7 (all-at 6 (λ k. leb (off b k) 7) (all-at 4 (λ b. all 6 (λ k. leb (off b k) 7)) changes b (omega arith)) k q);
 }
 
 pub back : Back 12 3 7 routes recording (playedOut 12 3 whole hops-room)
 back = back-block-by-block 12 3 7 routes recording whole hops-room recorded by-blocks played .0
+
+-- ---- and a single hop, analysed by one call
+knock-played : playedCode 12 1 knock-whole room ≡ 0
+unfolding answers
+knock-played = refl
+
+knock-analysed : recordedCode Direct 12 1 knock (room ++ room) ≡ 0
+unfolding answers
+knock-analysed = refl
+
+abbrev knock-off : ℕ → ℕ
+knock-off i = natAbs (at knock-whole i -ℤ at (recordedOut Direct 12 1 knock (room ++ room)) i)
+
+knock-changes : T (all 12 (λ i. leb (knock-off i) 7))
+unfolding answers
+knock-changes = tt
+
+by-one-call : ByOneCall 12 1 7 Direct knock knock-whole
+by-one-call = record {
+  buffer = room ++ room;
+  taken = knock-analysed;
+  near = λ i p. leb→le (knock-off i) 7 (all-at 12 (λ i. leb (knock-off i) 7) knock-changes i p);
+}
+
+pub knock-once : Back 12 1 7 (λ b. Direct) knock (playedOut 12 1 knock-whole room)
+knock-once = back-by-one-call 12 1 7 Direct knock knock-whole room (knock-recorded .sample) by-one-call knock-played .0

@@ -1,5 +1,5 @@
--- The listing returns its own hops, `listing-returns`: what follows from demand 3 with unchanged coefficients. So each inner line comes back as it
--- was, behind its number, `row-returns`. Document 01's example is `document-listing`.
+-- The listing returns its own hops, `listing-returns`: what follows from demand 3 with unchanged coefficients. So each line behind the first comes back
+-- as it was, behind its number, `row-returns`. Document 01's example is `document-listing`.
 use mathlib.Core.Path.{_≡_, refl, sym, ap, _∙_}
 use mathlib.Core.List.{List, [], _∷_, _++_, map}
 use Prim.Native.Nat.{ℕ, zero, suc, _+_, _-_, _/_, _≤_, _<_}
@@ -59,42 +59,42 @@ module _ (N : ℕ) (t : T (tabled N)) (hs : List (List ℤ)) (a : Hops (N / 2) h
   abbrev x : List ℤ
   x = recording hs
 
-  recorded : 2 ≤ length hs → Recording N (length hs) x
+  recorded : 1 ≤ length hs → Recording N (length hs) x
   recorded h = record { hops = h; long = recording-long (N / 2) hs a; sample = recording-sample (N / 2) hs a }
 
   -- every block is brought as it was analysed
   abbrev routes : ℕ → Route
   routes b = Direct
 
-  brought : (b : ℕ) → suc b < length hs → Brought N (length hs) 0 routes x b (analysed N x b)
+  brought : (b : ℕ) → b ≤ length hs → Brought N (length hs) 0 routes x b (analysed N x b)
   unfolding analysed offered
   brought b p = record {
-    covered = omega arith;
+    exists = p;
     offers = t;
     long = coefficients-long N t (block N x b) (blocks N t hs a b p);
     near = λ k q. unchanged (at (coefficients Direct N (block N x b)) k);
   }
 
-  -- so the step of an inner block returns the hop that was read
-  returned-is : (b : ℕ) → suc (suc b) < length hs → returned N (analysed N x) (suc b) ≡ getD hs (suc b) []
-  returned-is b p = ext-getD (pos 0) (returned N (analysed N x) (suc b)) (getD hs (suc b) []) (long ∙ sym (a .long (suc b) (omega arith))) (λ n q. same n (omega (arith, long)))
+  -- so the step of block b + 1 returns the hop b that was read
+  returned-is : (b : ℕ) → b < length hs → returned N (analysed N x) (suc b) ≡ getD hs b []
+  returned-is b p = ext-getD (pos 0) (returned N (analysed N x) (suc b)) (getD hs b []) (long ∙ sym (a .long b p)) (λ n q. same n (omega (arith, long)))
     where
       long : length (returned N (analysed N x) (suc b)) ≡ N / 2
       long = returned-long N (analysed N x) (suc b)
 
-      same : (n : ℕ) → n < N / 2 → at (returned N (analysed N x) (suc b)) n ≡ at (getD hs (suc b) []) n
+      same : (n : ℕ) → n < N / 2 → at (returned N (analysed N x) (suc b)) n ≡ at (getD hs b []) n
       same n q =
           returned-at N (analysed N x) b n q
           ∙ back-same N t (length hs) x (recorded (omega arith)) 0 routes b (analysed N x b) (analysed N x (suc b)) (brought b (omega arith)) (brought (suc b) p) (omega arith) refl refl n q
-          ∙ recording-at (N / 2) hs a (suc b) n (omega arith) q
+          ∙ recording-at (N / 2) hs a b n p q
 
 -- ---- the listing
-rows-same : (f g : ℕ → List ℤ) (k : ℕ) → ((j : ℕ) → j < k → f (suc j) ≡ g (suc j)) → rows f k ≡ rows g k
+rows-same : (f g : ℕ → List ℤ) (k : ℕ) → ((j : ℕ) → j < k → f j ≡ g j) → rows f k ≡ rows g k
 unfolding rows
 rows-same f g zero h = refl
 rows-same f g (suc k) h = rw (rows-same f g k (λ j p. h j (omega arith)), h k (omega arith))
 
--- every listing that is taken comes back: the header, then each inner hop's number with the samples of its own line
+-- every listing that is taken comes back: the header, then each hop's number with the samples of its own line
 pub listing-returns : (text : List ℕ) → verdict text .code ≡ 0 → listing text ≡ table (verdict text .n) (verdict text .hops) (hopOf text)
 unfolding listing table
 listing-returns text e =
@@ -103,7 +103,7 @@ listing-returns text e =
     let hs = hopsOf text in
     rw (
       eq-eqb (verdict text .code) 0 e,
-      rows-same (returnedHops N text) (hopOf text) (verdict text .hops - 2) (λ j p. returned-is N (K .length-tabled) hs (taken-hops K) j (omega (arith, hops-counted K))),
+      rows-same (returnedHops N text) (hopOf text) (verdict text .hops) (λ j p. returned-is N (K .length-tabled) hs (taken-hops K) j (omega (arith, hops-counted K))),
     )
 
 -- ---- a hop's row, in the bytes of its line: a well-formed number is printed as it was
@@ -124,5 +124,5 @@ row-returns {text} {N} K j h =
     rw (hops-at K j h, printed-all (fields l) t, more-fields l)
 
 -- ---- the whole of document 01's example
-pub document-listing : listing document ≡ ascii "hop,s0,s1,s2,s3,s4,s5\n1,7,-8,32767,-32768,1,0\n"
+pub document-listing : listing document ≡ ascii "hop,s0,s1,s2,s3,s4,s5\n0,0,0,0,0,0,0\n1,7,-8,32767,-32768,1,0\n2,5,5,5,5,5,5\n"
 document-listing = listing-returns document (ap (λ (v : Verdict). v .code) document-taken) ∙ rw document-taken document-table

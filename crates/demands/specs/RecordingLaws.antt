@@ -1,20 +1,19 @@
 -- Laws of the blocks of a recording: two that follow each other share a hop, and what is brought for one is near its direct coefficients.
-use mathlib.Core.Path.{_≡_, _∙_}
+use mathlib.Core.Path.{_≡_, ap, _∙_}
 use mathlib.Core.List.{List}
-use Prim.Native.Nat.{ℕ, suc, _+_, _*_, _/_, _≤_, _<_, _^_, max}
-use native.Mathlib.Nat.{le-trans, mul-le-mul-right, le-max-left, le-max-right, max-le}
+use Prim.Native.Nat.{ℕ, suc, _+_, _*_, _/_, _%_, _≤_, _<_, _^_, max}
+use native.Mathlib.Nat.{div-lt-iff-lt-mul, mod-lt, div-add-mod, mul-comm, le-trans, suc-mul, mul-le-mul-right, le-max-left, le-max-right, max-le}
 use native.Mathlib.Omega.{arith}
 use lib.Dec.{T}
-use lib.ListN.{length, drop}
-use lib.Seq.{getD-take, getD-drop}
 use lib.IntN.{ℤ, pos, natAbs, _-ℤ_, _+ℤ_}
+use lib.Signed.{leZ-yes}
 use Rattle.arithmetic.specs.Lists.{at}
 use Rattle.arithmetic.specs.Rounding.{rnd, clamp, Sample}
 use Rattle.arithmetic.specs.ListLaws.{getD-table}
 use Rattle.arithmetic.specs.OrderLaws.{abs-via}
 use Rattle.arithmetic.specs.RoundingLaws.{sample-abs}
 use Rattle.cosine.specs.Kernels.{tabled, rising, falling}
-use Rattle.cosine.specs.LengthLaws.{Part, part-of}
+use Rattle.cosine.specs.LengthLaws.{length-of, Part, part-of}
 use Rattle.transform.specs.Analysis.{y, X, direct}
 use Rattle.split.specs.ShortRoute.{shortX, short}
 use Rattle.transform.specs.Synthesis.{V′}
@@ -27,7 +26,8 @@ use Rattle.reconstruction.specs.DistanceLaws.{sine-neighbours, returned-each, r
 use Rattle.analysis.specs.declared.Route.{Route}
 use Rattle.analysis.specs.declared.Route.the-variants.{Direct, Short}
 use Rattle.analysis.specs.Analysis.{offered, spectrum, coefficients}
-use Rattle.recording.specs.Recordings.{block}
+use Rattle.recording.specs.Recordings.{padded, block}
+use Rattle.recording.specs.BlockLaws.{padded-at, padded-each, block-at}
 use Rattle.demands.specs.Steps.{Recording, Brought, unitsOf, change, provedUnits, provedChange}
 
 -- ---- the change where two blocks meet is no less than that of each, and no more than what is asked
@@ -61,6 +61,17 @@ change-direct Q r r′ e f = rw (e, f) (omega arith)
 abbrev pub windowed : ℕ → List ℤ → ℕ → ℤ
 windowed N x = y N (rising N) (falling N) x
 
+-- ---- sample i of a recording of H hops: its hop, and its place there
+pub record Hop (N H i : ℕ) : Type 0 where
+  pub within : i / (N / 2) < H
+  pub less : i % (N / 2) < N / 2
+  pub place : i / (N / 2) * (N / 2) + i % (N / 2) ≡ i
+
+pub hop-of : (N : ℕ) → T (tabled N) → (H i : ℕ) → i < H * (N / 2) → Hop N H i
+hop-of N t H i p =
+    let some : 0 < N / 2 = omega (arith, length-of N t .twelve, length-of N t .some) in
+    record { within = div-lt-iff-lt-mul {x = i} {y = H} some .1 p; less = mod-lt i some; place = omega (arith, div-add-mod i (N / 2), mul-comm (i / (N / 2)) (N / 2)) }
+
 -- ---- the coefficients by a route, against the direct ones
 module _ (N : ℕ) (x : List ℤ) (k : ℕ) (p : k < N / 2) where
   pub by-direct : at (coefficients Direct N x) k ≡ X N (windowed N x) k
@@ -83,27 +94,29 @@ module _ (N : ℕ) (t : T (tabled N)) (H : ℕ) (x : List ℤ) (rec : Recording 
   len = part-of N t
 
   -- ---- the samples of a block
-  pub block-at : (b n : ℕ) → n < N → at (block N x b) n ≡ at x (b * (N / 2) + n)
-  unfolding block
-  block-at b n p = getD-take N (drop (b * (N / 2)) x) n (pos 0) p ∙ getD-drop (b * (N / 2)) x n (pos 0)
+  silent : Sample (pos 0)
+  silent = record { low = leZ-yes tt; high = leZ-yes tt }
 
-  block-in : (b n : ℕ) → b + 1 < H → n < N → b * (N / 2) + n < length x
-  block-in b n p q = omega (arith, rec .long, len .four, mul-le-mul-right (N / 2) p)
+  pub block-sample : (b n : ℕ) → n < N → Sample (at (block N x b) n)
+  block-sample b n q = rw (block-at N x b n q) (padded-each N x Sample silent (rec .sample) (b * (N / 2) + n))
 
-  pub block-sample : (b : ℕ) → b + 1 < H → (n : ℕ) → n < N → Sample (at (block N x b) n)
-  block-sample b p n q = rw (block-at b n q) (rec .sample (b * (N / 2) + n) (block-in b n p q))
+  -- the first hop of block b + 1 is hop b of the recording
+  pub block-hop : (b n : ℕ) → suc b ≤ H → n < N / 2 → at (block N x (suc b)) n ≡ at x (b * (N / 2) + n)
+  block-hop b n p q =
+      let e : suc b * (N / 2) + n ≡ N / 2 + (b * (N / 2) + n) = omega (arith, suc-mul b (N / 2)) in
+      block-at N x (suc b) n (omega arith) ∙ ap (at (padded N x)) e ∙ padded-at N x (b * (N / 2) + n) (omega (arith, rec .long, mul-le-mul-right (N / 2) p, suc-mul b (N / 2)))
 
-  pub windowed-size : (b : ℕ) → b + 1 < H → (n : ℕ) → n < N → natAbs (windowed N (block N x b) n) ≤ 2 ^ 23
-  windowed-size b p = y-size N (rising N) (falling N) len (λ n q. rising-size N n) (λ n q. falling-size N n) (block N x b) (λ n q. sample-abs (block-sample b p n q))
+  pub windowed-size : (b : ℕ) (n : ℕ) → n < N → natAbs (windowed N (block N x b) n) ≤ 2 ^ 23
+  windowed-size b = y-size N (rising N) (falling N) len (λ n q. rising-size N n) (λ n q. falling-size N n) (block N x b) (λ n q. sample-abs (block-sample b n q))
 
   -- blocks b and b + 1
-  pub neighbours : (b : ℕ) → suc b + 1 < H → Neighbours N (rising N) (falling N) (rising N) (falling N) (block N x b) (block N x (suc b))
-  neighbours b p = sine-neighbours N t (block N x b) (block N x (suc b)) (block-sample b (omega arith)) (block-sample (suc b) p) shared
+  pub neighbours : (b : ℕ) → Neighbours N (rising N) (falling N) (rising N) (falling N) (block N x b) (block N x (suc b))
+  neighbours b = sine-neighbours N t (block N x b) (block N x (suc b)) (block-sample b) (block-sample (suc b)) shared
     where
       shared : (n : ℕ) → n < N / 2 → at (block N x b) (N / 2 + n) ≡ at (block N x (suc b)) n
       shared n q =
           let e : b * (N / 2) + (N / 2 + n) ≡ suc b * (N / 2) + n = omega arith in
-          rw (block-at b (N / 2 + n) (omega (arith, len .four)), block-at (suc b) n (omega (arith, len .four)), e)
+          rw (block-at N x b (N / 2 + n) (omega (arith, len .four)), block-at N x (suc b) n (omega (arith, len .four)), e)
 
   -- ---- the hop that they share
   module _ (Q : ℕ) (routes : ℕ → Route) (b : ℕ) (c₁ c₂ : List ℤ) (brought₁ : Brought N H Q routes x b c₁) (brought₂ : Brought N H Q routes x (suc b) c₂) where
@@ -115,21 +128,21 @@ module _ (N : ℕ) (t : T (tabled N)) (H : ℕ) (x : List ℤ) (rec : Recording 
     back n = clamp (rnd (V′ N (rising N) (falling N) c₁ (N / 2 + n) +ℤ V′ N (rising N) (falling N) c₂ n) (N * 2 ^ 30))
 
     nb : Neighbours N (rising N) (falling N) (rising N) (falling N) (block N x b) (block N x (suc b))
-    nb = neighbours b (brought₂ .covered)
+    nb = neighbours b
 
     near₁ : (k : ℕ) → k < N / 2 → natAbs (at c₁ k -ℤ X N (windowed N (block N x b)) k) ≤ Q′
-    near₁ k p = le-trans (near-direct N (block N x b) (windowed-size b (brought₁ .covered)) Q (routes b) (brought₁ .offers) (at c₁ k) k p (brought₁ .near k p)) (change-first Q (routes b) (routes (suc b)))
+    near₁ k p = le-trans (near-direct N (block N x b) (windowed-size b) Q (routes b) (brought₁ .offers) (at c₁ k) k p (brought₁ .near k p)) (change-first Q (routes b) (routes (suc b)))
 
     near₂ : (k : ℕ) → k < N / 2 → natAbs (at c₂ k -ℤ X N (windowed N (block N x (suc b))) k) ≤ Q′
-    near₂ k p = le-trans (near-direct N (block N x (suc b)) (windowed-size (suc b) (brought₂ .covered)) Q (routes (suc b)) (brought₂ .offers) (at c₂ k) k p (brought₂ .near k p)) (change-second Q (routes b) (routes (suc b)))
+    near₂ k p = le-trans (near-direct N (block N x (suc b)) (windowed-size (suc b)) Q (routes (suc b)) (brought₂ .offers) (at c₂ k) k p (brought₂ .near k p)) (change-second Q (routes b) (routes (suc b)))
 
-    pub back-near : (n : ℕ) → n < N / 2 → natAbs (back n -ℤ at x (suc b * (N / 2) + n)) ≤ (3 * Q′ + 36) / 64
-    back-near n p = rw (← (block-at (suc b) n (omega arith))) (returned-each N t nb Q′ c₁ c₂ near₁ near₂ n p)
+    pub back-near : (n : ℕ) → n < N / 2 → natAbs (back n -ℤ at x (b * (N / 2) + n)) ≤ (3 * Q′ + 36) / 64
+    back-near n p = rw (← (block-hop b n (brought₂ .exists) p)) (returned-each N t nb Q′ c₁ c₂ near₁ near₂ n p)
 
-    pub back-same : Q ≤ 9 → routes b ≡ Direct → routes (suc b) ≡ Direct → (n : ℕ) → n < N / 2 → back n ≡ at x (suc b * (N / 2) + n)
+    pub back-same : Q ≤ 9 → routes b ≡ Direct → routes (suc b) ≡ Direct → (n : ℕ) → n < N / 2 → back n ≡ at x (b * (N / 2) + n)
     back-same q e f n p =
         let g : Q′ ≤ 9 = rw (change-direct Q (routes b) (routes (suc b)) e f) q in
-        rw (← (block-at (suc b) n (omega arith))) (returned-same N t nb Q′ c₁ c₂ near₁ near₂ g n p)
+        rw (← (block-hop b n (brought₂ .exists) p)) (returned-same N t nb Q′ c₁ c₂ near₁ near₂ g n p)
 
 -- ---- the sharper claims give those that are asked
 pub near-asked : (Q : ℕ) (r r′ : Route) {d : ℕ} → d ≤ (3 * provedChange Q r r′ + 36) / 64 → d ≤ (change Q r r′ + 8) / 16

@@ -2,9 +2,11 @@
 use mathlib.Core.Path.{_≡_, refl, ap, _∙_}
 use mathlib.Core.Logic.{_≢_}
 use mathlib.Core.List.{List, [], _∷_}
-use Prim.Native.Nat.{ℕ, suc}
+use Prim.Native.Nat.{ℕ, zero, suc, _<_}
+use native.Mathlib.Nat.{not-suc-le-zero, le-of-suc-le-suc}
 use native.Mathlib.Omega.{arith}
 use native.Mathlib.Decide.{ℕ-discrete}
+use lib.ListN.{length}
 use Rattle.stream.specs.declared.Stream.{Stream}
 use Rattle.stream_calls.specs.Streams.{stepCode, step}
 use Rattle.demands.specs.Steps.{Offer, Turn, answered, run, after, taken, offers-of, Entry}
@@ -56,6 +58,12 @@ module _ (s : Stream) (o : Offer) (offers : List Offer) where
 pub no-entry : {A : Type 0} {l : List A} {i : ℕ} {a : A} → Entry l i a → l ≡ [] → ⊥
 no-entry first e = let z : _≡_ {A = ℕ} 0 1 = cc in omega arith
 no-entry (later h) e = let z : _≡_ {A = ℕ} 0 1 = cc in omega arith
+
+-- a list has as many entries as its length says
+pub entry-at : {A : Type 0} (l : List A) (i : ℕ) → i < length l → (a : A) × Entry l i a
+entry-at [] i p = absurd (not-suc-le-zero p)
+entry-at (a ∷ l) zero p = (a, first)
+entry-at (a ∷ l) (suc i) p = let (b, e) = entry-at l i (le-of-suc-le-suc p) in (b, later e)
 
 -- a turn by what was offered, and the other way
 pub entry-offer : {us : List Turn} {i : ℕ} {u : Turn} → Entry us i u → Entry (offers-of us) i (u .offer)

@@ -1,10 +1,10 @@
--- Demand 3 for a list of synthesis steps on one stream: definitions. Document 01, 'Sound there and back'. That they hold together is
+-- Demand 3 for a list of synthesis steps on one stream: definitions. Document 01, 'Sound there and back', and document 02, P1. That they hold together is
 -- `there-and-back` of ThereAndBackLaws. `fresh`, `step`, `stepOut` and `coefficients` are those that the public calls' contracts cite.
 use mathlib.Core.Path.{_≡_}
 use mathlib.Core.Logic.{_≢_}
 use mathlib.Core.Bool.{cond}
 use mathlib.Core.List.{List, [], _∷_}
-use Prim.Native.Nat.{ℕ, suc, _+_, _-_, _*_, _/_, _≤_, _<_, max}
+use Prim.Native.Nat.{ℕ, suc, _+_, _-_, _*_, _/_, _%_, _≤_, _<_, max}
 use lib.Dec.{T, eqb}
 use lib.ListN.{length, drop, replicate}
 use lib.IntN.{ℤ, pos, natAbs, _-ℤ_}
@@ -74,16 +74,16 @@ pub data Entry {A : Type 0} : List A → ℕ → A → Type 0 where
   later : {a b : A} {l : List A} {i : ℕ} → Entry l i a → Entry (b ∷ l) (suc i) a
 
 -- ---- the recording
--- x is a recording of H hops of M samples
+-- x is a recording of H hops of M samples. It has H + 1 blocks, of which block b covers hops b - 1 and b, zeros where there is no such hop
 pub record Recording (N H : ℕ) (x : List ℤ) : Type 0 where
-  pub hops : 2 ≤ H
+  pub hops : 1 ≤ H
   pub long : length x ≡ H * (N / 2)
   pub sample : (i : ℕ) → i < length x → Sample (at x i)
 
 -- c are the M coefficients of block b of x, analysed by its own route, which is offered at N, each changed by a whole number from -Q to Q. That they are in range isn't
 -- asked: a step that takes them says so
 pub record Brought (N H Q : ℕ) (routes : ℕ → Route) (x : List ℤ) (b : ℕ) (c : List ℤ) : Type 0 where
-  pub covered : b + 1 < H
+  pub exists : b ≤ H
   pub offers : T (offered (routes b) N)
   pub long : length c ≡ N / 2
   pub near : (k : ℕ) → k < N / 2 → natAbs (at c k -ℤ at (coefficients (routes b) N (block N x b)) k) ≤ Q
@@ -112,15 +112,23 @@ pub record Returned (N Q : ℕ) (routes : ℕ → Route) (x : List ℤ) (us : Li
   pub refused-buffer : (i : ℕ) (t : Turn) → Entry us i t → t .answer .code ≢ 0 → t .output ≡ t .offer .buffer
   -- a taken one returns a hop of M samples
   pub hop-long : (j : ℕ) (t : Turn) → Entry (taken us) j t → length (t .output) ≡ N / 2
-  -- the taken step that brings block b + 1 returns the hop which blocks b and b + 1 share
+  -- the taken step that brings block b + 1 returns hop b of the recording, which blocks b and b + 1 share
   pub hop-near : (b : ℕ) (t : Turn) → Entry (taken us) (suc b) t → (n : ℕ) → n < N / 2 →
-      natAbs (at (t .output) n -ℤ at x (suc b * (N / 2) + n)) ≤ (change Q (routes b) (routes (suc b)) + 8) / 16
+      natAbs (at (t .output) n -ℤ at x (b * (N / 2) + n)) ≤ (change Q (routes b) (routes (suc b)) + 8) / 16
   pub hop-same : (b : ℕ) (t : Turn) → Entry (taken us) (suc b) t → Q ≤ 7 → routes b ≡ Direct → routes (suc b) ≡ Direct →
-      (n : ℕ) → n < N / 2 → at (t .output) n ≡ at x (suc b * (N / 2) + n)
+      (n : ℕ) → n < N / 2 → at (t .output) n ≡ at x (b * (N / 2) + n)
   -- the stream after the list is one of N, and its storage from M on is zero
   pub final-n : last .n ≡ N
   pub final-long : length (last .tail) ≡ storage
   pub final-zero : drop (N / 2) (last .tail) ≡ replicate (storage - N / 2) (pos 0)
+
+-- in the customer's words: once all H + 1 blocks are taken, every sample of the recording has returned. Sample i is place i % M of hop i / M, and
+-- stands there in the buffer of the taken step that brought block i / M + 1
+pub record WholeReturned (N H Q : ℕ) (routes : ℕ → Route) (x : List ℤ) (us : List Turn) : Type 0 where
+  pub near : length (taken us) ≡ H + 1 → (i : ℕ) → i < H * (N / 2) → (t : Turn) × Entry (taken us) (suc (i / (N / 2))) t ×
+      (natAbs (at (t .output) (i % (N / 2)) -ℤ at x i) ≤ (change Q (routes (i / (N / 2))) (routes (suc (i / (N / 2)))) + 8) / 16)
+  pub same : length (taken us) ≡ H + 1 → Q ≤ 7 → (i : ℕ) → i < H * (N / 2) → routes (i / (N / 2)) ≡ Direct → routes (suc (i / (N / 2))) ≡ Direct →
+      (t : Turn) × Entry (taken us) (suc (i / (N / 2))) t × (at (t .output) (i % (N / 2)) ≡ at x i)
 
 -- ---- beyond what is asked, of the same list: (3 Q + 36) / 64, equal up to Q = 9, and 7 units for the short route
 unfoldable pub provedUnits : Route → ℕ
@@ -132,6 +140,6 @@ provedChange Q r r′ = Q + max (provedUnits r) (provedUnits r′)
 
 pub record Sharper (N Q : ℕ) (routes : ℕ → Route) (x : List ℤ) (us : List Turn) : Type 0 where
   pub hop-near : (b : ℕ) (t : Turn) → Entry (taken us) (suc b) t → (n : ℕ) → n < N / 2 →
-      natAbs (at (t .output) n -ℤ at x (suc b * (N / 2) + n)) ≤ (3 * provedChange Q (routes b) (routes (suc b)) + 36) / 64
+      natAbs (at (t .output) n -ℤ at x (b * (N / 2) + n)) ≤ (3 * provedChange Q (routes b) (routes (suc b)) + 36) / 64
   pub hop-same : (b : ℕ) (t : Turn) → Entry (taken us) (suc b) t → Q ≤ 9 → routes b ≡ Direct → routes (suc b) ≡ Direct →
-      (n : ℕ) → n < N / 2 → at (t .output) n ≡ at x (suc b * (N / 2) + n)
+      (n : ℕ) → n < N / 2 → at (t .output) n ≡ at x (b * (N / 2) + n)

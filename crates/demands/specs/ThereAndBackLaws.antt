@@ -1,8 +1,8 @@
 -- Demand 3 for a list of synthesis steps, the theorem: `there-and-back`. One induction over the list says what every turn does, a second what the hops are.
-use mathlib.Core.Path.{_≡_, refl}
+use mathlib.Core.Path.{_≡_, refl, ap, _∙_}
 use mathlib.Core.Logic.{_≢_}
 use mathlib.Core.List.{List, [], _∷_}
-use Prim.Native.Nat.{ℕ, suc, _+_, _*_, _/_, _^_, _≤_, _<_}
+use Prim.Native.Nat.{ℕ, suc, _+_, _*_, _/_, _%_, _^_, _≤_, _<_}
 use native.Mathlib.Omega.{arith}
 use native.Mathlib.Decide.{ℕ-discrete}
 use lib.Dec.{T}
@@ -17,11 +17,11 @@ use Rattle.analysis.specs.declared.Route.{Route}
 use Rattle.analysis.specs.declared.Route.the-variants.{Direct}
 use Rattle.stream.specs.Steps.{hop}
 use Rattle.stream_calls.specs.Streams.{fresh}
-use Rattle.demands.specs.Steps.{Offer, Turn, answered, run, taken, turns, final, Entry, Recording, Brought, InOrder, provedChange, Returned, Sharper}
+use Rattle.demands.specs.Steps.{Offer, Turn, answered, run, taken, turns, final, Entry, Recording, Brought, InOrder, provedChange, Returned, WholeReturned, Sharper}
 use Rattle.demands.specs.Steps.Entry.{first, later}
 use Rattle.demands.specs.StepLaws.{taken-buffer}
-use Rattle.demands.specs.RunLaws.{code, answered-code, refused-stream, refused-buffer, run-taken, run-refused, no-entry, entry-taken}
-use Rattle.demands.specs.RecordingLaws.{back-near, back-same, near-asked}
+use Rattle.demands.specs.RunLaws.{code, answered-code, refused-stream, refused-buffer, run-taken, run-refused, no-entry, entry-at, entry-taken}
+use Rattle.demands.specs.RecordingLaws.{hop-of, back-near, back-same, near-asked}
 use Rattle.stream.specs.NextLaws.{Fine, hop-long, hop-at, next-at}
 use Rattle.demands.specs.StreamLaws.{fresh-is, fine-made, fine-four, fine-answered, fine-after, taken-next}
 
@@ -65,8 +65,8 @@ module _ (N : ℕ) (t : T (tabled N)) where
 
     -- what the turn u that brings block b + 1 returns
     record Kept (b : ℕ) (u : Turn) : Type 0 where
-      near : (n : ℕ) → n < N / 2 → natAbs (at (u .output) n -ℤ at x (suc b * (N / 2) + n)) ≤ (3 * provedChange Q (routes b) (routes (suc b)) + 36) / 64
-      same : Q ≤ 9 → routes b ≡ Direct → routes (suc b) ≡ Direct → (n : ℕ) → n < N / 2 → at (u .output) n ≡ at x (suc b * (N / 2) + n)
+      near : (n : ℕ) → n < N / 2 → natAbs (at (u .output) n -ℤ at x (b * (N / 2) + n)) ≤ (3 * provedChange Q (routes b) (routes (suc b)) + 36) / 64
+      same : Q ≤ 9 → routes b ≡ Direct → routes (suc b) ≡ Direct → (n : ℕ) → n < N / 2 → at (u .output) n ≡ at x (b * (N / 2) + n)
 
     module _ (s : Stream) (o : Offer) (zero-code : code s o ≡ 0) where
       kept : (b : ℕ) → State (suc b) s → Brought N H Q routes x (suc b) (o .brought) → Kept b (answered s o)
@@ -158,6 +158,22 @@ there-and-back N t H Q routes x rec offers order =
       final-n = last .n-is;
       final-long = last .long;
       final-zero = last .zeros;
+    }
+
+-- once all blocks are taken, every sample has returned
+pub whole-returned : (N : ℕ) → T (tabled N) → (H Q : ℕ) (routes : ℕ → Route) (x : List ℤ) → Recording N H x →
+    (offers : List Offer) → InOrder N H Q routes x (turns N offers) → WholeReturned N H Q routes x (turns N offers)
+whole-returned N t H Q routes x rec offers order =
+    let back = there-and-back N t H Q routes x rec offers order in
+    record {
+      near = λ all i p.
+          let l = hop-of N t H i p in
+          let (u, e) = entry-at (taken (turns N offers)) (suc (i / (N / 2))) (omega (arith, all, l .within)) in
+          (u, e, rw (ap (at x) (l .place)) at (back .hop-near (i / (N / 2)) u e (i % (N / 2)) (l .less)));
+      same = λ all q i p d d′.
+          let l = hop-of N t H i p in
+          let (u, e) = entry-at (taken (turns N offers)) (suc (i / (N / 2))) (omega (arith, all, l .within)) in
+          (u, e, back .hop-same (i / (N / 2)) u e q d d′ (i % (N / 2)) (l .less) ∙ ap (at x) (l .place));
     }
 
 -- and what is proved of it beyond that

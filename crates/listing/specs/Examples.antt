@@ -100,7 +100,7 @@ pub document-header : header 6 ≡ ascii "hop,s0,s1,s2,s3,s4,s5\n"
 unfolding header line more table decimal digitsBy
 document-header = refl
 
--- the inner hop of the example as it was read
+-- hop 1 of the example as it was read
 pub document-row : row 1 (hopOf document 1) ≡ ascii "1,7,-8,32767,-32768,1,0\n"
 unfolding row line more printed decimal digitsBy hopsOf lines split inFront ended samples fields value isSigned natural naturalFrom
 document-row = refl
@@ -109,11 +109,11 @@ pub empty-refusal : refusal 5 1 ≡ ascii "refused,5,1\n"
 unfolding refusal line more decimal digitsBy
 empty-refusal = refl
 
--- ---- document 01's example: its verdict, and its own inner hop behind the header
+-- ---- document 01's example: its verdict, and its own hops behind the header
 pub document-taken : verdict document ≡ taken 12 3
 unfolding every verdict byLines byLength byHops lines remainder split inFront ended unended fields isSample isHop isNumber value isSigned natural naturalFrom isNatural leadingZero isDigit tabled lengths
 document-taken = refl
 
-pub document-table : L.table 12 3 (hopOf document) ≡ ascii "hop,s0,s1,s2,s3,s4,s5\n1,7,-8,32767,-32768,1,0\n"
+pub document-table : L.table 12 3 (hopOf document) ≡ ascii "hop,s0,s1,s2,s3,s4,s5\n0,0,0,0,0,0,0\n1,7,-8,32767,-32768,1,0\n2,5,5,5,5,5,5\n"
 unfolding L.table rows header row line more table printed decimal digitsBy hopsOf lines split inFront ended samples fields value isSigned natural naturalFrom
 document-table = refl

@@ -15,8 +15,9 @@ use Rattle.arithmetic.specs.ListLaws.{length-table, getD-table}
 use Rattle.arithmetic.specs.TestLaws.{every-at}
 use Rattle.text.specs.Number.{mostDigits, isNumber, value}
 use Rattle.text.specs.NumberLaws.{and-left, and-right, number-wider}
-use Rattle.text.specs.Lines.{lines, lineAt, lineStart, fields}
-use Rattle.text.specs.LineLaws.{lines-from, line-is, lines-few}
+use Rattle.text.specs.Bytes.{lineFeed}
+use Rattle.text.specs.Lines.{indexOf, lines, remainder, lineAt, lineStart, fields}
+use Rattle.text.specs.LineLaws.{lines-from, line-is, lines-few, line-found, remainder-found, remainder-none, next-is, end-most}
 use Rattle.listing.specs.Hops.{digits, isSample, isHop, samples}
 use Rattle.listing.specs.Verdicts.{hopsOf, hopOf}
 use Rattle.listing.specs.VerdictLaws.{Taken}
@@ -53,7 +54,7 @@ module _ (M : ℕ) (l : List ℕ) (t : T (isHop M l)) where
   unfolding isHop
   hop-field i h = every-at isSample [] (fields l) (and-right (eqb (length (fields l)) M) (every isSample (fields l)) t) i (omega (arith, hop-fields))
 
-  pub hop-length : length (samples l) ≡ M
+  hop-length : length (samples l) ≡ M
   unfolding samples
   hop-length = length-map (fields l) value ∙ hop-fields
 
@@ -61,7 +62,7 @@ module _ (M : ℕ) (l : List ℕ) (t : T (isHop M l)) where
   unfolding samples
   hop-at i h = map-at value (fields l) i [] (pos 0) (omega (arith, hop-fields))
 
-  pub hop-sample : (i : ℕ) → i < M → Sample (at (samples l) i)
+  hop-sample : (i : ℕ) → i < M → Sample (at (samples l) i)
   hop-sample i h = rw (hop-at i h) (sample-is (getD (fields l) i []) (hop-field i h))
 
   -- as the values of its fields, one by one
@@ -70,6 +71,27 @@ module _ (M : ℕ) (l : List ℕ) (t : T (isHop M l)) where
     where
       f : ℕ → ℤ
       f i = value (getD (fields l) i [])
+
+-- ---- behind k lines the same remainder is left
+remainder-from : (s : List ℕ) (k : ℕ) → k ≤ length (lines s) → remainder (drop (lineStart s k) s) ≡ remainder s
+unfolding lineStart
+remainder-from s zero h = refl
+remainder-from s (suc k) h =
+    let i = lineStart s k in
+    let e = i + indexOf lineFeed (drop i s) in
+    let n = next-is s i e refl in
+    rw n (sym (remainder-found s i e (lines-from s k (omega arith) .0) refl (omega (arith, n, lines-from s (suc k) h .0))) ∙ remainder-from s k (omega arith))
+
+-- so behind the last line nothing stands, where the remainder is empty
+lines-end : (s : List ℕ) → length (remainder s) ≡ 0 → lineStart s (length (lines s)) ≡ length s
+lines-end s r =
+    let k = length (lines s) in
+    let i = lineStart s k in
+    let e = i + indexOf lineFeed (drop i s) in
+    let q = lines-from s k (omega arith) in
+    let none : ¬ (e < length s) = λ p. omega (arith, ap length (sym (line-found s i e (q .0) refl p) ∙ q .1), length-drop k (lines s)) in
+    let all = remainder-none s i e (q .0) refl (omega (arith, none, end-most lineFeed s i e (q .0) refl)) in
+    omega (arith, ap length (sym all ∙ remainder-from s k (omega arith)), length-drop i s, q .0)
 
 -- ---- the hops of a taken listing
 module _ {text : List ℕ} {N H : ℕ} (K : Taken text N H) where
@@ -101,6 +123,12 @@ module _ {text : List ℕ} {N H : ℕ} (K : Taken text N H) where
   pub hops-read : (j : ℕ) → j < H → samples (lineAt text (lineStart text (suc j))) ≡ hopOf text j
   hops-read j h = rw (line-is text (suc j) (omega (arith, K .counted))) (sym (hops-at j h))
 
-  -- there are fewer than bytes
-  pub hops-few : H < length text
-  hops-few = omega (arith, lines-few text, K .counted)
+  -- behind the last hop no line is left
+  pub hops-end : lineStart text (suc H) ≡ length text
+  hops-end = rw (sym (K .counted)) (lines-end text (K .ended))
+
+  pub hops-left : (j : ℕ) → j < H → lineStart text (suc j) < length text
+  hops-left j h =
+      let i = lineStart text (suc j) in
+      let q = lines-from text (suc j) (omega (arith, K .counted)) in
+      omega (arith, ap length (q .1), length-drop (suc j) (lines text), lines-few (drop i text), length-drop i text, K .counted)

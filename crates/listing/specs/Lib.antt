@@ -8,5 +8,6 @@ pub mod PrintLaws
 pub mod BankLaws
 pub mod SizeLaws
 pub mod BlockLaws
+pub mod StepLaws
 pub mod OutputLaws
 pub mod Examples

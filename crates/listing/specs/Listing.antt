@@ -1,7 +1,7 @@
--- What round-trip prints for the bytes of its standard input: definitions. Document 01, 'Listing program'.
+-- What round-trip prints for the bytes of its standard input: definitions. Document 01, 'Listing program', and document 02, P1.
 use mathlib.Core.Bool.{cond}
 use mathlib.Core.List.{List, [], _∷_, _++_}
-use Prim.Native.Nat.{ℕ, zero, suc, _-_, _/_}
+use Prim.Native.Nat.{ℕ, zero, suc, _/_}
 use lib.Dec.{eqb}
 use lib.IntN.{ℤ}
 use Rattle.stream.specs.Steps.{returned}
@@ -21,21 +21,20 @@ recording (h ∷ hs) = h ++ recording hs
 unfoldable pub analysed : ℕ → List ℤ → ℕ → List ℤ
 analysed N x b = coefficients Direct N (block N x b)
 
--- the hop that comes back for block b of a listing: what step b from a fresh stream returns, each step on the coefficients of its block,
--- unchanged. That of block 0 is the run-in
+-- hop h of a listing as it comes back: what the step of block h + 1 returns, from a fresh stream, each step on the coefficients of its block,
+-- unchanged. What the step of block 0 returns is the run-in, and is not printed
 abbrev pub returnedHops : ℕ → List ℕ → ℕ → List ℤ
-returnedHops N text = returned N (analysed N (recording (hopsOf text)))
+returnedHops N text h = returned N (analysed N (recording (hopsOf text))) (suc h)
 
 -- ---- what is printed
--- the rows of hops 1 to k: each hop's number, and its samples
+-- the rows of the first k hops: each hop's number, counted from 0, and its samples
 unfoldable pub rows : (ℕ → List ℤ) → ℕ → List ℕ
 rows hops zero = []
-rows hops (suc k) = rows hops k ++ row (suc k) (hops (suc k))
+rows hops (suc k) = rows hops k ++ row k (hops k)
 
--- of a listing that is taken, of H hops: the header, then a row for each inner hop, those between the first and the last.
--- With fewer than three hops there is none
+-- of a listing that is taken, of H hops: the header, then a row for each hop
 unfoldable pub table : ℕ → ℕ → (ℕ → List ℤ) → List ℕ
-table N H hops = header (N / 2) ++ rows hops (H - 2)
+table N H hops = header (N / 2) ++ rows hops H
 
 -- a refusal prints its line only
 unfoldable pub listing : List ℕ → List ℕ

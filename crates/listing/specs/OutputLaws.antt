@@ -1,7 +1,7 @@
 -- Laws of the whole output: what the code has put into the buffer, by its verdict, is the listing.
-use mathlib.Core.Path.{_≡_, ap, _∙_}
-use mathlib.Core.List.{List, _++_, append-nil}
-use Prim.Native.Nat.{ℕ, _+_, _-_, _*_, _/_, _≤_, _<_}
+use mathlib.Core.Path.{_≡_}
+use mathlib.Core.List.{List}
+use Prim.Native.Nat.{ℕ, _+_, _*_, _/_, _≤_}
 use native.Mathlib.Omega.{arith}
 use lib.ListN.{length}
 use borrow.Author.Tests.{eq-eqb, ne-eqb}
@@ -44,23 +44,16 @@ module _ (before text : List ℕ) (v : Verdict) (is : v ≡ verdict text) (fits 
     pub half-few : v .n / 2 ≤ 99999
     half-few = omega (arith, length-of (v .n) (taken .length-tabled) .most)
 
-    rows-fit : 7 * (v .n / 2) + 4 + (v .hops - 2) * (7 * (v .n / 2) + 6) ≤ room
+    rows-fit : 7 * (v .n / 2) + 4 + v .hops * (7 * (v .n / 2) + 5) ≤ room
     rows-fit = table-room (v .n) (v .hops) (taken .length-tabled) (hops-bytes taken)
 
     pub header-room : 0 + (7 * (v .n / 2) + 4) ≤ length before
     header-room = omega (arith, rows-fit)
 
-    -- fewer than three hops: the header alone
-    pub header-written : v .hops < 3 → {after : List ℕ} {r : ℕ} → Put (header (v .n / 2)) before 0 after r → Written (listing text) before after r
-    unfolding table rows
-    header-written h {after} {r} p =
-        let z : v .hops - 2 ≡ 0 = omega arith in
-        listed (rw (taken-is ∙ ap (λ (k : ℕ). header (v .n / 2) ++ rows (returnedHops (v .n) text) k) z ∙ append-nil (header (v .n / 2))) p)
-
     module _ {mid : List ℕ} {a : ℕ} (p : Put (header (v .n / 2)) before 0 mid a) where
-      pub rows-room : a + (v .hops - 2) * (7 * (v .n / 2) + 6) ≤ length mid
+      pub rows-room : a + v .hops * (7 * (v .n / 2) + 5) ≤ length mid
       rows-room = omega (arith, p .behind, put-length p, header-most (v .n / 2) half-few, rows-fit)
 
-      pub rows-written : {after : List ℕ} {r : ℕ} → Put (rows (returnedHops (v .n) text) (v .hops - 2)) mid a after r → Written (listing text) before after r
+      pub rows-written : {after : List ℕ} {r : ℕ} → Put (rows (returnedHops (v .n) text) (v .hops)) mid a after r → Written (listing text) before after r
       unfolding table
       rows-written {after} {r} q = listed (rw taken-is (put-then p q))

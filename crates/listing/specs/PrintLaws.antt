@@ -1,4 +1,4 @@
--- Laws of what is printed: its numbers have five digits at most, and its lines grow field by field.
+-- Laws of what is printed: its numbers have few digits, and its lines grow field by field.
 use mathlib.Core.Path.{_≡_}
 use mathlib.Core.List.{List, [], _∷_, _++_, map, map-append}
 use Prim.Native.Nat.{ℕ, _+_, _≤_, _<_}
@@ -16,6 +16,10 @@ use Rattle.text.specs.LineLaws.{more-last}
 
 pub decimal-most : (n : ℕ) → n ≤ 99999 → length (decimal n) ≤ 5
 decimal-most n h = Numbers.decimal-most 4 n (omega arith)
+
+-- as few as a hop's number has
+pub decimal-short : (n : ℕ) → n ≤ 9999 → length (decimal n) ≤ 4
+decimal-short n h = Numbers.decimal-most 3 n (omega arith)
 
 pub printed-most : (v : ℤ) → natAbs v ≤ 99999 → length (printed v) ≤ 6
 printed-most v h = Numbers.printed-most 4 v (omega arith)

@@ -2,8 +2,8 @@
 use mathlib.Core.Path.{_≡_, refl, sym, ap, _∙_}
 use mathlib.Core.Bool.{Bool, true, false, cond}
 use mathlib.Core.List.{List, [], _∷_, _++_, map}
-use Prim.Native.Nat.{ℕ, zero, suc, _+_, _-_, _*_, _/_, _≤_, _<_}
-use native.Mathlib.Nat.{mul-le-mul-right}
+use Prim.Native.Nat.{ℕ, zero, suc, _+_, _*_, _/_, _≤_, _<_}
+use native.Mathlib.Nat.{mul-le-mul-left, mul-le-mul-right}
 use native.Mathlib.Omega.{arith}
 use native.Mathlib.Numerals.{add-one}
 use native.Mathlib.Decide.{ℕ-discrete}
@@ -24,10 +24,10 @@ use Rattle.text.specs.Lines.{lines, fields, more, line}
 use Rattle.text.specs.LineLaws.{split-weight, lines-weight, parts-weight, behind-weight}
 use Rattle.listing.specs.Print.{word-hop, word-s, word-refused, header, row, refusal}
 use Rattle.listing.specs.Hops.{digits, isHop}
-use Rattle.listing.specs.HopLaws.{sample-number, hop-fields, hop-field, hops-counted, hops-length, hops-sample, hops-few}
+use Rattle.listing.specs.HopLaws.{sample-number, hop-fields, hop-field, hops-counted, hops-length, hops-sample}
 use Rattle.listing.specs.Verdicts.{limit, verdict, hopsOf}
 use Rattle.listing.specs.VerdictLaws.{Taken, verdict-taken, verdict-code, verdict-line}
-use Rattle.listing.specs.PrintLaws.{decimal-most, printed-most, names-next}
+use Rattle.listing.specs.PrintLaws.{decimal-most, decimal-short, printed-most, names-next}
 use Rattle.listing.specs.Listing.{recording, analysed, returnedHops, rows, table, listing}
 use Rattle.listing.specs.BankLaws.{Hops, returned-sample}
 
@@ -43,6 +43,12 @@ hop-bytes M l t = omega (arith, parts-weight 2 (fields l) (λ i p. field i (omeg
 module _ {text : List ℕ} {N H : ℕ} (K : Taken text N H) where
   pub hops-bytes : H * (N / 2 * 2) ≤ limit
   hops-bytes = omega (arith, behind-weight (N / 2 * 2) H (lines text) (K .counted) (λ i p. hop-bytes (N / 2) (getD (lines text) (suc i) []) (K .hop i p)), lines-weight text, K .small)
+
+  -- and a hop's number has four digits at most
+  pub hops-most : H ≤ 9999
+  hops-most =
+      let twelve : 12 ≤ N / 2 * 2 = omega (arith, length-of N (K .length-tabled) .twelve, length-of N (K .length-tabled) .some) in
+      omega (arith, mul-le-mul-left H twelve, hops-bytes)
 
   pub taken-hops : Hops (N / 2) (hopsOf text)
   taken-hops = record {
@@ -76,64 +82,64 @@ fields-most [] h = omega arith
 fields-most (x ∷ xs) h =
     omega (arith, length-append (printed x) (more (map printed xs)), printed-most x (h 0 (omega arith)), fields-most xs (λ i p. h (suc i) (omega arith)))
 
-pub row-most : (j : ℕ) (xs : List ℤ) → j ≤ 99999 → ((i : ℕ) → i < length xs → natAbs (at xs i) ≤ 99999) → length (row j xs) ≤ 7 * length xs + 6
+row-most : (j : ℕ) (xs : List ℤ) → j ≤ 9999 → ((i : ℕ) → i < length xs → natAbs (at xs i) ≤ 99999) → length (row j xs) ≤ 7 * length xs + 5
 unfolding row line
 row-most j xs p h =
     let samples = more (map printed xs) in
-    omega (arith, length-append (decimal j ++ samples) (lineFeed ∷ []), length-append (decimal j) samples, decimal-most j p, fields-most xs h)
+    omega (arith, length-append (decimal j ++ samples) (lineFeed ∷ []), length-append (decimal j) samples, decimal-short j p, fields-most xs h)
 
-pub refusal-most : (code at : ℕ) → code ≤ 99999 → at ≤ 99999 → length (refusal code at) ≤ 20
+refusal-most : (code at : ℕ) → code ≤ 99999 → at ≤ 99999 → length (refusal code at) ≤ 20
 unfolding refusal line more
 refusal-most code at p q =
     let fs = comma ∷ (decimal code ++ (comma ∷ (decimal at ++ []))) in
     omega (arith, length-append (word-refused ++ fs) (lineFeed ∷ []), length-append word-refused fs, length-append (decimal code) (comma ∷ (decimal at ++ [])), length-append (decimal at) [], decimal-most code p, decimal-most at q)
 
-rows-most : (hops : ℕ → List ℤ) (c k : ℕ) → ((j : ℕ) → j < k → length (row (suc j) (hops (suc j))) ≤ c) → length (rows hops k) ≤ k * c
+rows-most : (hops : ℕ → List ℤ) (c k : ℕ) → ((j : ℕ) → j < k → length (row j (hops j)) ≤ c) → length (rows hops k) ≤ k * c
 unfolding rows
 rows-most hops c zero h = omega arith
 rows-most hops c (suc k) h =
-    omega (arith, length-append (rows hops k) (row (suc k) (hops (suc k))), h k (omega arith), rows-most hops c k (λ j p. h j (omega arith)))
+    omega (arith, length-append (rows hops k) (row k (hops k)), h k (omega arith), rows-most hops c k (λ j p. h j (omega arith)))
 
 -- the most bytes that are printed
 abbrev pub room : ℕ
 room = 262144
 
--- a header and H - 2 rows
-pub table-room : (N H : ℕ) → T (tabled N) → H * (N / 2 * 2) ≤ limit → 7 * (N / 2) + 4 + (H - 2) * (7 * (N / 2) + 6) ≤ room
+-- a header and H rows
+pub table-room : (N H : ℕ) → T (tabled N) → H * (N / 2 * 2) ≤ limit → 7 * (N / 2) + 4 + H * (7 * (N / 2) + 5) ≤ room
 table-room N H t h = go (ℕ-discrete N 12) (ℕ-discrete N 24) (ℕ-discrete N 36)
   where
-    go : Dec (N ≡ 12) → Dec (N ≡ 24) → Dec (N ≡ 36) → 7 * (N / 2) + 4 + (H - 2) * (7 * (N / 2) + 6) ≤ room
+    go : Dec (N ≡ 12) → Dec (N ≡ 24) → Dec (N ≡ 36) → 7 * (N / 2) + 4 + H * (7 * (N / 2) + 5) ≤ room
     go (yes e) b c = rw e (omega (arith, rw e at h))
     go (no a) (yes e) c = rw e (omega (arith, rw e at h))
     go (no a) (no b) (yes e) = rw e (omega (arith, rw e at h))
     go (no a) (no b) (no c) = let e = last-length N t a b c in rw e (omega (arith, rw e at h))
 
 module _ {text : List ℕ} {N H : ℕ} (K : Taken text N H) where
-  -- the row of an inner hop
-  pub taken-row : (j : ℕ) → j < H - 2 → length (row (suc j) (returnedHops N text (suc j))) ≤ 7 * (N / 2) + 6
+  -- the row of a hop
+  taken-row : (j : ℕ) → j < H → length (row j (returnedHops N text j)) ≤ 7 * (N / 2) + 5
   taken-row j p =
-      let h = returnedHops N text (suc j) in
+      let h = returnedHops N text j in
       let l = returned-long N (analysed N (recording (hopsOf text))) (suc j) in
       omega (
         arith,
         l,
-        row-most (suc j) h (omega (arith, hops-few K, K .small))
+        row-most j h (omega (arith, hops-most K))
             (λ i r. omega (arith, sample-abs (returned-sample N (analysed N (recording (hopsOf text))) (suc j) i (omega (arith, l))))),
       )
 
-  -- behind the rows of hops 1 to k there is room for another
-  pub row-room : (k from at most : ℕ) → k < H - 2 → at ≡ from + length (rows (returnedHops N text) k) → from + (H - 2) * (7 * (N / 2) + 6) ≤ most → at + (7 * (N / 2) + 6) ≤ most
+  -- behind the rows of the first k hops there is room for another
+  pub row-room : (k from at most : ℕ) → k < H → at ≡ from + length (rows (returnedHops N text) k) → from + H * (7 * (N / 2) + 5) ≤ most → at + (7 * (N / 2) + 5) ≤ most
   row-room k from at most p is h =
-      let c = 7 * (N / 2) + 6 in
+      let c = 7 * (N / 2) + 5 in
       let l = rows-most (returnedHops N text) c k (λ j q. taken-row j (omega arith)) in
-      let m : suc k * c ≤ (H - 2) * c = mul-le-mul-right c p in
+      let m : suc k * c ≤ H * c = mul-le-mul-right c p in
       omega arith
 
-  pub taken-most : length (table N H (returnedHops N text)) ≤ room
+  taken-most : length (table N H (returnedHops N text)) ≤ room
   unfolding table
   taken-most =
       let f = returnedHops N text in
-      omega (arith, length-append (header (N / 2)) (rows f (H - 2)), header-most (N / 2) (omega (arith, length-of N (K .length-tabled) .most)), rows-most f (7 * (N / 2) + 6) (H - 2) taken-row, table-room N H (K .length-tabled) (hops-bytes K))
+      omega (arith, length-append (header (N / 2)) (rows f H), header-most (N / 2) (omega (arith, length-of N (K .length-tabled) .most)), rows-most f (7 * (N / 2) + 5) H taken-row, table-room N H (K .length-tabled) (hops-bytes K))
 
 -- whatever the text is
 pub listing-most : (text : List ℕ) → length (listing text) ≤ room

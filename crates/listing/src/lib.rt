@@ -1,5 +1,6 @@
 // The listing program on bytes: `round_trip` takes any input, and what it writes is the definition of specs/Listing.
 mod bank;
+mod block;
 mod hop;
 mod print;
 mod verdict;
@@ -20,8 +21,5 @@ pub fn round_trip(input: &[u8], out: &mut [u8; ROOM]) -> usize
         return print::put_refusal(v.code, v.line, out, 0);
     }
     let at = print::put_header(n / 2, out, 0);
-    if v.hops < 3 {
-        return at;
-    }
     bank::put_rows(input, n, v.hops, out, at)
 }

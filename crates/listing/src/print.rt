@@ -37,7 +37,7 @@ pub fn put_header(m: usize, out: &mut [u8], from: usize) -> usize
 
 // The row of a hop.
 pub fn put_row(hop: usize, samples: &[i16], out: &mut [u8], from: usize) -> usize
-    requires { ⌜ (hop ≤ 99999) × (from + (7 * length (now samples) + 6) ≤ length (now out)) ⌝ }
+    requires { ⌜ (hop ≤ 9999) × (from + (7 * length (now samples) + 5) ≤ length (now out)) ⌝ }
     ensures { λ r. ⌜ Put (row hop (now (samples .entry))) (now (out .entry)) from (now (out .exit)) r ⌝ }
 {
     let mut at = put_digits(hop as u64, out, from);

@@ -1,8 +1,8 @@
--- Laws of lists joined from parts of one length, and of a loop that fills a list part by part.
+-- Laws of lists joined from parts, and of code that fills a list part by part.
 use mathlib.Core.Path.{_≡_, refl, sym, _∙_, ap}
 use mathlib.Core.List.{List, _++_, append-assoc, append-nil}
 use mathlib.Core.Logic.{dite}
-use Prim.Native.Nat.{ℕ, zero, suc, _+_, _*_, _≤_, _<_}
+use Prim.Native.Nat.{ℕ, zero, suc, _+_, _-_, _*_, _≤_, _<_}
 use native.Mathlib.Nat.{not-suc-le-zero, mul-le-mul-right, add-mul, one-mul, zero-mul, suc-mul}
 use native.Mathlib.Numerals.{add-one}
 use native.Mathlib.Omega.{arith}
@@ -17,6 +17,47 @@ use Rattle.recording.specs.Recordings.{joined}
 -- part b of m lies within B parts
 pub within : (b B m : ℕ) → b < B → b * m + m ≤ B * m
 within b B m h = let q : b + 1 ≤ B = omega arith in omega (arith, mul-le-mul-right m q, add-mul b 1 m)
+
+-- the first part in front
+pub joined-front : (b : ℕ) (g : ℕ → List ℤ) → joined (suc b) g ≡ g 0 ++ joined b (λ j. g (suc j))
+unfolding joined
+joined-front zero g = sym (append-nil (g 0))
+joined-front (suc b) g = ap (λ (l : List ℤ). l ++ g (suc b)) (joined-front b g) ∙ append-assoc (g 0) (joined b (λ j. g (suc j))) (g (suc b))
+
+pub joined-same : (b : ℕ) (f g : ℕ → List ℤ) → ((j : ℕ) → j < b → f j ≡ g j) → joined b f ≡ joined b g
+unfolding joined
+joined-same zero f g e = refl
+joined-same (suc b) f g e = rw (joined-same b f g (λ j p. e j (omega arith)), e b (omega arith))
+
+-- a list of three parts, each written in its place: A in front, B from m on, C from e on
+module _ (A B C d : List ℤ) (m e : ℕ) (front : length A ≡ m) (middle : m + length B ≡ e) (rest : length d ≡ e + length C) where
+  abbrev one : List ℤ
+  one = A ++ drop m d
+
+  abbrev two : List ℤ
+  two = take m one ++ (B ++ drop (e - m) (drop m one))
+
+  two-is : two ≡ (A ++ B) ++ drop e d
+  two-is =
+      let f : m + (e - m) ≡ e = omega arith in
+      rw (take-at A (drop m d) m front, drop-at A (drop m d) m front, drop-drop (e - m) m d, f) (sym (append-assoc A B (drop e d)))
+
+  ends : length (A ++ B) ≡ e
+  ends = length-append A B ∙ omega arith
+
+  pub two-long : length two ≡ length d
+  two-long = ap length two-is ∙ length-append (A ++ B) (drop e d) ∙ omega (arith, ends, length-drop e d)
+
+  pub three-parts : (k : ℕ) → k ≡ length C → take e two ++ (C ++ drop k (drop e two)) ≡ A ++ (B ++ C)
+  three-parts k is =
+      rw (
+        two-is,
+        take-at (A ++ B) (drop e d) e ends,
+        drop-at (A ++ B) (drop e d) e ends,
+        drop-of-length-le (drop e d) {i = k} (omega (arith, length-drop e d)),
+        append-nil C,
+      )
+      (append-assoc A B C)
 
 module _ (g : ℕ → List ℤ) (m : ℕ) where
   -- the first b parts are written, and the rest is as it was

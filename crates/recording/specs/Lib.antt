@@ -1,3 +1,4 @@
 pub mod Recordings
+pub mod BlockLaws
 pub mod JoinLaws
 pub mod RecordingLaws

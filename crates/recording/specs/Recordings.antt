@@ -1,29 +1,42 @@
--- Whole recordings: definitions. Document 01, 'Whole recordings'. B is the number of blocks.
+-- Whole recordings: definitions. Document 01, 'Whole recordings', and document 02, P1. A recording of H hops has H + 1 blocks.
 use mathlib.Core.List.{List, [], _++_}
-use Prim.Native.Nat.{ℕ, zero, suc, _*_, _/_}
-use lib.ListN.{take, drop}
-use lib.IntN.{ℤ}
+use Prim.Native.Nat.{ℕ, zero, suc, _+_, _*_, _/_}
+use lib.ListN.{take, drop, replicate}
+use lib.IntN.{ℤ, pos}
 use Rattle.stream.specs.Steps.{returned}
 use Rattle.analysis.specs.declared.Route.{Route}
 use Rattle.analysis.specs.Analysis.{coefficients}
 
--- g(0) .. g(B-1), one after the other
+-- g(0) .. g(k-1), one after the other
 unfoldable pub joined : ℕ → (ℕ → List ℤ) → List ℤ
 joined zero g = []
-joined (suc b) g = joined b g ++ g b
+joined (suc k) g = joined k g ++ g k
 
--- block b of a recording x covers hops b and b + 1
+-- a hop of zeros
+unfoldable pub silence : ℕ → List ℤ
+silence N = replicate (N / 2) (pos 0)
+
+-- a recording has one hop of zeros put before it and one after it
+unfoldable pub padded : ℕ → List ℤ → List ℤ
+padded N x = silence N ++ (x ++ silence N)
+
+-- the N samples of x that stand from hop b on: its hops b and b + 1
+unfoldable pub standing : ℕ → List ℤ → ℕ → List ℤ
+standing N x b = take N (drop (b * (N / 2)) x)
+
+-- block b of a recording x, b from 0 to H, covers its hops b - 1 and b, which are hops b and b + 1 of the padded one
 unfoldable pub block : ℕ → List ℤ → ℕ → List ℤ
-block N x b = take N (drop (b * (N / 2)) x)
+block N x b = standing N (padded N x) b
 
--- analysis: the coefficients of B blocks of the recording x, block after block
+-- analysis: the coefficients of the H + 1 blocks of the recording x, block after block
 unfoldable pub analysis : Route → ℕ → ℕ → List ℤ → List ℤ
-analysis route N B x = joined B (λ b. coefficients route N (block N x b))
+analysis route N H x = joined (H + 1) (λ b. coefficients route N (block N x b))
 
 -- the M coefficients of block b, of those of a recording
 unfoldable pub part : ℕ → List ℤ → ℕ → List ℤ
 part N X b = take (N / 2) (drop (b * (N / 2)) X)
 
--- synthesis: the hops that B steps from a fresh stream return, hop after hop
+-- synthesis: H + 1 steps from a fresh stream, one for each block. What the step of block 0 returns, the run-in, is dropped; hop h of the
+-- recording is what the step of block h + 1 returns
 unfoldable pub synthesis : ℕ → ℕ → List ℤ → List ℤ
-synthesis N B X = joined B (returned N (part N X))
+synthesis N H X = joined H (λ h. returned N (part N X) (suc h))

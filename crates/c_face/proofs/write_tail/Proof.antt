@@ -8,8 +8,7 @@ use lib.IntN.{ℤ}
 use mir.Syntax.{w64}
 use mir.Facts.{toZ-ofZ}
 use Rattle.arithmetic.specs.Lists.{at}
-use Rattle.arithmetic.specs.ListLaws.{Filled, filled-none, filled-more, filled-all}
-use Rattle.c_face.specs.FaceLaws.{table-at}
+use Rattle.arithmetic.specs.ListLaws.{table-at, Filled, filled-none, filled-more, filled-all}
 use Rattle.c_face.proofs.write_tail.Statement.{statement}
 use Rattle.c_face.proofs.write_tail.Tie as tie
 

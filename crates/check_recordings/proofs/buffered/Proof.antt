@@ -5,23 +5,11 @@ use borrow.Author.Needs.{needs}
 use Rattle.check_recordings.proofs.buffered.Statement.{statement}
 use Rattle.check_recordings.proofs.buffered.Tie as tie
 
-marks-requires : tie.Need-marks-requires
-marks-requires c κs = search needs
-
-slice-aggregate-fill : tie.Need-slice-aggregate-fill
-slice-aggregate-fill c = search needs
-
-add-fill : tie.Need-add-fill
-add-fill c = search needs
-
-fill-requires : tie.Need-fill-requires
-fill-requires c κs = search needs
-
 coefficient-marks-requires : tie.Need-coefficient-marks-requires
 coefficient-marks-requires c κs = search needs
 
-marks-requires-2 : tie.Need-marks-requires-2
-marks-requires-2 c κs = search needs
+marks-requires : tie.Need-marks-requires
+marks-requires c κs = search needs
 
 array-share-prefix-x : tie.Need-array-share-prefix-x
 array-share-prefix-x c = search needs
@@ -51,12 +39,8 @@ pub buffered-spec : {M : Type 1} → statement M
 buffered-spec =
     tie.close
     (tie.spec
-    marks-requires
-    slice-aggregate-fill
-    add-fill
-    fill-requires
     coefficient-marks-requires
-    marks-requires-2
+    marks-requires
     array-share-prefix-x
     slice-aggregate-there-and-back
     array-borrow-prefix-c

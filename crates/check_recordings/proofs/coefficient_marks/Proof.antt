@@ -6,7 +6,7 @@ use Rattle.check_recordings.proofs.coefficient_marks.Statement.{stateme
 use Rattle.check_recordings.proofs.coefficient_marks.Tie as tie
 
 returns : tie.Need-returns
-returns c = sym (length-replicate {A = ℤ} 147528 (pos 12345))
+returns c = sym (length-replicate {A = ℤ} 147492 (pos 12345))
 
 pub coefficient-marks-spec : {M : Type 1} → statement M
 coefficient-marks-spec = tie.close (tie.spec returns)

@@ -1,15 +1,17 @@
--- `differing` is safe and ends: the loop counts to the length of the part, and at most one is added each time.
-use Rattle.arithmetic.specs.OrderLaws.{signs}
+-- `differing` is safe and ends: the loop counts to the length of both, and at most one is added each time.
 use Prim.Native.Nat.{_-_, _≤_}
 use borrow.Author.Needs.{needs}
 use Rattle.check_recordings.proofs.differing.Statement.{statement}
 use Rattle.check_recordings.proofs.differing.Tie as tie
 
 abbrev Inv-loop : tie.InvT-loop
-Inv-loop part later count₀ i₀ i-end count i = (i ≤ i-end) × (count ≤ i)
+Inv-loop part x count₀ i₀ i-end count i = (i ≤ i-end) × (count ≤ i)
 
 abbrev μ-loop : tie.MeasureT-loop
-μ-loop part later count₀ i₀ i-end count i = i-end - i
+μ-loop part x count₀ i₀ i-end count i = i-end - i
+
+returns : tie.Need-returns Inv-loop μ-loop
+returns c = search needs
 
 loop-holds : tie.Need-loop-holds Inv-loop μ-loop
 loop-holds c = search needs
@@ -20,11 +22,11 @@ mul-unlike c = search needs
 shared-slice-copy-out-unlike : tie.Need-shared-slice-copy-out-unlike Inv-loop μ-loop
 shared-slice-copy-out-unlike c = search needs
 
-cast-unlike : tie.Need-cast-unlike Inv-loop μ-loop
-cast-unlike c = search signs
+mul-unlike-2 : tie.Need-mul-unlike-2 Inv-loop μ-loop
+mul-unlike-2 c = search needs
 
-entry-requires : tie.Need-entry-requires Inv-loop μ-loop
-entry-requires c κs = search needs
+shared-slice-copy-out-unlike-2 : tie.Need-shared-slice-copy-out-unlike-2 Inv-loop μ-loop
+shared-slice-copy-out-unlike-2 c = search needs
 
 unlike-requires : tie.Need-unlike-requires Inv-loop μ-loop
 unlike-requires c κs = search needs
@@ -41,8 +43,8 @@ loop-less c = search needs
 loop-again : tie.Need-loop-again Inv-loop μ-loop
 loop-again c = search needs
 
-returns : tie.Need-returns Inv-loop μ-loop
-returns c = search needs
+returns-2 : tie.Need-returns-2 Inv-loop μ-loop
+returns-2 c = search needs
 
 pub differing-spec : {M : Type 1} → statement M
 differing-spec =
@@ -50,14 +52,15 @@ differing-spec =
     (tie.spec
     Inv-loop
     μ-loop
+    returns
     loop-holds
     mul-unlike
     shared-slice-copy-out-unlike
-    cast-unlike
-    entry-requires
+    mul-unlike-2
+    shared-slice-copy-out-unlike-2
     unlike-requires
     add-count
     add-i
     loop-less
     loop-again
-    returns)
+    returns-2)

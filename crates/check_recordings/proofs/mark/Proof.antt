@@ -7,10 +7,10 @@ use Rattle.check_recordings.proofs.mark.Statement.{statement}
 use Rattle.check_recordings.proofs.mark.Tie as tie
 
 abbrev Inv-loop : tie.InvT-loop
-Inv-loop out₀ from i₀ i-end out i = length out ≡ i-end
+Inv-loop out₀ i₀ i-end out i = length out ≡ i-end
 
 abbrev μ-loop : tie.MeasureT-loop
-μ-loop out₀ from i₀ i-end out i = i-end - i
+μ-loop out₀ i₀ i-end out i = i-end - i
 
 loop-holds : tie.Need-loop-holds Inv-loop μ-loop
 loop-holds c = search needs

@@ -6,7 +6,7 @@ use Rattle.check_recordings.proofs.marks.Statement.{statement}
 use Rattle.check_recordings.proofs.marks.Tie as tie
 
 returns : tie.Need-returns
-returns c = sym (length-replicate {A = ℤ} 147528 (pos 12345))
+returns c = sym (length-replicate {A = ℤ} 147492 (pos 12345))
 
 pub marks-spec : {M : Type 1} → statement M
 marks-spec = tie.close (tie.spec returns)

@@ -1,4 +1,4 @@
--- `recorded` is safe: 4,097 blocks of hops of 36, and one hop more, lie in the room.
+-- `recorded` is safe: 4,096 hops of 36, and one hop more, lie in the room.
 use Prim.Native.Nat.{_*_, _/_, _≤_}
 use native.Mathlib.Nat.{mul-le-mul}
 use native.Mathlib.Omega.{arith}
@@ -6,7 +6,7 @@ use borrow.Author.Needs.{needs}
 use Rattle.check_recordings.proofs.recorded.Statement.{statement}
 use Rattle.check_recordings.proofs.recorded.Tie as tie
 
-lies : (c : tie.Start) → c .args .blocks * (c .args .n / 2) ≤ 4097 * 36
+lies : (c : tie.Start) → c .args .hops * (c .args .n / 2) ≤ 4096 * 36
 lies c = let hop : c .args .n / 2 ≤ 36 = omega (arith, c .pre .0) in mul-le-mul (c .pre .1) hop
 
 mul-count : tie.Need-mul-count

@@ -1,4 +1,4 @@
--- `round_trip` meets its contract: a refusal's line, the header alone, or the header and the rows.
+-- `round_trip` meets its contract: a refusal's line, or the header and the rows.
 use mathlib.Core.Path.{_≡_, sym}
 use native.Mathlib.Omega.{arith}
 use borrow.Author.Needs.{needs}
@@ -6,7 +6,7 @@ use lib.ListN.{length}
 use Rattle.listing.specs.declared.verdict.Verdict.{Verdict}
 use Rattle.listing.specs.Verdicts.{verdict}
 use Rattle.listing.specs.SizeLaws.{room}
-use Rattle.listing.specs.OutputLaws.{code-few, line-few, refused-written, taken, half-few, header-room, header-written, rows-room, rows-written}
+use Rattle.listing.specs.OutputLaws.{code-few, line-few, refused-written, taken, half-few, header-room, rows-room, rows-written}
 use Rattle.listing.proofs.round_trip.Statement.{statement}
 use Rattle.listing.proofs.round_trip.Tie as tie
 
@@ -61,26 +61,17 @@ put-header-requires c κs =
     let text = start₂ c .args .input .now in
     (half-few out text (v₂ c) (is₂ c) (fits₂ c) (zero-code c), header-room out text (v₂ c) (is₂ c) (fits₂ c) (zero-code c))
 
+put-rows-requires : tie.Need-put-rows-requires
+put-rows-requires c κs =
+    let h = c .before in
+    let a = h .before in
+    let out = start₂ a .args .out .now in
+    let text = start₂ a .args .input .now in
+    (taken out text (v₂ a) (is₂ a) (fits₂ a) (zero-code a), rows-room out text (v₂ a) (is₂ a) (fits₂ a) (zero-code a) (h .put-header .ensures))
+
 returns-2 : tie.Need-returns-2
 returns-2 c =
     let h = c .before .before in
-    let a = h .before in
-    header-written (start₂ a .args .out .now) (start₂ a .args .input .now) (v₂ a) (is₂ a) (fits₂ a) (zero-code a) (c .if2 .taken) (h .put-header .ensures)
-
-put-rows-requires : tie.Need-put-rows-requires
-put-rows-requires c κs =
-    let h = c .before .before .before in
-    let a = h .before in
-    let out = start₂ a .args .out .now in
-    let text = start₂ a .args .input .now in (
-      taken out text (v₂ a) (is₂ a) (fits₂ a) (zero-code a),
-      c .before .if2 .left,
-      rows-room out text (v₂ a) (is₂ a) (fits₂ a) (zero-code a) (h .put-header .ensures),
-    )
-
-returns-3 : tie.Need-returns-3
-returns-3 c =
-    let h = c .before .before .before .before in
     let a = h .before in
     rows-written (start₂ a .args .out .now) (start₂ a .args .input .now) (v₂ a) (is₂ a) (fits₂ a) (zero-code a) (h .put-header .ensures) (c .put-rows .ensures)
 
@@ -92,6 +83,5 @@ round-trip-spec =
     put-refusal-requires
     returns
     put-header-requires
-    returns-2
     put-rows-requires
-    returns-3)
+    returns-2)

@@ -13,7 +13,7 @@ use Rattle.checks.specs.Limits.{counted}
 use Rattle.recording_calls.specs.Recordings.{recordedCauses}
 use Rattle.checks.specs.Causes.First.{none, stop, pass}
 use Rattle.checks.specs.CauseLaws.{same, differs}
-use Rattle.checks.specs.LimitLaws.{counted-most, places-few}
+use Rattle.checks.specs.LimitLaws.{counted-some, counted-most, places-few}
 use Rattle.recording_calls.specs.RecordingLaws.{recorded-answer}
 use borrow.Author.Needs.{needs}
 use Rattle.recording_calls.proofs.analyse_recording.Statement.{statement}
@@ -30,7 +30,7 @@ returns : tie.Need-returns
 unfolding recordedCauses
 returns c =
     let a = c .before .before .args in
-    recorded-answer (a .route) (a .n) (a .blocks) (a .x .now) (a .out .now) (stop (sym (c .before .is-offered .ensures) ∙ not-true (c .before .is-offered .result) (c .if1 .taken)))
+    recorded-answer (a .route) (a .n) (a .hops) (a .x .now) (a .out .now) (stop (sym (c .before .is-offered .ensures) ∙ not-true (c .before .is-offered .result) (c .if1 .taken)))
 
 is-counted-requires : tie.Need-is-counted-requires
 is-counted-requires c κs = search needs
@@ -39,32 +39,32 @@ returns-2 : tie.Need-returns-2
 unfolding recordedCauses
 returns-2 c =
     let a = c .before .before .before .before .args in
-    recorded-answer (a .route) (a .n) (a .blocks) (a .x .now) (a .out .now)
+    recorded-answer (a .route) (a .n) (a .hops) (a .x .now) (a .out .now)
     (pass (good (c .before .before)) (stop (sym (c .before .is-counted .ensures) ∙ not-true (c .before .is-counted .result) (c .if2 .taken))))
 
-few : (c : tie.Else2) → counted (c .before .before .before .before .args .blocks) ≡ true
+few : (c : tie.Else2) → counted (c .before .before .before .before .args .hops) ≡ true
 few c = sym (c .before .is-counted .ensures) ∙ not-false (c .before .is-counted .result) (c .if2 .left)
 
 tab : (c : tie.Else2) → T (tabled (c .before .before .before .before .args .n))
 tab c = let a = c .before .before .before .before .args in offered-tabled (a .route) (a .n) (is-T (good (c .before .before)))
 
-most : (c : tie.Else2) → c .before .before .before .before .args .blocks ≤ 4096
-most c = counted-most (c .before .before .before .before .args .blocks) (few c)
+most : (c : tie.Else2) → c .before .before .before .before .args .hops ≤ 4095
+most c = counted-most (c .before .before .before .before .args .hops) (few c)
 
-add-hops : tie.Need-add-hops
-add-hops c = omega (arith, most c)
+add-blocks : tie.Need-add-blocks
+add-blocks c = omega (arith, most c)
 
 mul-if3 : tie.Need-mul-if3
 mul-if3 c =
     let a = c .before .before .before .before .args in
-    omega (arith, places-few (a .n) (tab c) (a .blocks + 1) (omega (arith, most c)))
+    omega (arith, places-few (a .n) (tab c) (a .hops + 1) (omega (arith, most c)))
 
 returns-3 : tie.Need-returns-3
 unfolding recordedCauses
 returns-3 c =
     let e = c .before in
     let a = e .before .before .before .before .args in
-    recorded-answer (a .route) (a .n) (a .blocks) (a .x .now) (a .out .now)
+    recorded-answer (a .route) (a .n) (a .hops) (a .x .now) (a .out .now)
     (pass (good (e .before .before)) (pass (few e) (differs (c .if3 .taken))))
 
 mul-if4 : tie.Need-mul-if4
@@ -75,14 +75,15 @@ unfolding recordedCauses
 returns-4 c =
     let e = c .before .before in
     let a = e .before .before .before .before .args in
-    recorded-answer (a .route) (a .n) (a .blocks) (a .x .now) (a .out .now)
+    recorded-answer (a .route) (a .n) (a .hops) (a .x .now) (a .out .now)
     (pass (good (e .before .before)) (pass (few e) (same (c .before .if3 .left) (differs (c .if4 .taken)))))
 
 analyse-requires : tie.Need-analyse-requires
 analyse-requires c κs =
     let f = c .before in
     let e = f .before .before in
-    (is-T (good (e .before .before)), most e, f .before .if3 .left, f .if4 .left)
+    let a = e .before .before .before .before .args in
+    (is-T (good (e .before .before)), counted-some (a .hops) (few e), most e, f .before .if3 .left, f .if4 .left)
 
 same-length : tie.Need-same-length
 same-length c = search needs
@@ -93,7 +94,7 @@ returns-5 c =
     let f = c .before .before .before in
     let e = f .before .before in
     let a = e .before .before .before .before .args in
-    let t = recorded-answer (a .route) (a .n) (a .blocks) (a .x .now) (a .out .now)
+    let t = recorded-answer (a .route) (a .n) (a .hops) (a .x .now) (a .out .now)
     (pass (good (e .before .before)) (pass (few e) (same (f .before .if3 .left) (same (f .if4 .left) none)))) in
     (t .0, c .before .analyse .ensures ∙ t .1)
 
@@ -105,7 +106,7 @@ analyse-recording-spec =
     returns
     is-counted-requires
     returns-2
-    add-hops
+    add-blocks
     mul-if3
     returns-3
     mul-if4

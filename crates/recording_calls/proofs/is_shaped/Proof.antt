@@ -31,17 +31,17 @@ is-counted-requires c κs = search needs
 returns-2 : tie.Need-returns-2
 unfolding shaped
 returns-2 c =
-    let e : counted (c .before .before .before .before .args .blocks) ≡ false = sym (c .before .is-counted .ensures) ∙ not-true (c .before .is-counted .result) (c .if2 .taken) in
+    let e : counted (c .before .before .before .before .args .hops) ≡ false = sym (c .before .is-counted .ensures) ∙ not-true (c .before .is-counted .result) (c .if2 .taken) in
     rw (long (c .before .before), e)
 
-few : (c : tie.Else2) → counted (c .before .before .before .before .args .blocks) ≡ true
+few : (c : tie.Else2) → counted (c .before .before .before .before .args .hops) ≡ true
 few c = sym (c .before .is-counted .ensures) ∙ not-false (c .before .is-counted .result) (c .if2 .left)
 
 mul-result : tie.Need-mul-result
 mul-result c =
     let a = c .before .before .before .before .args in
     let t : T (tabled (a .n)) = rw (long (c .before .before)) tt in
-    omega (arith, places-few (a .n) t (a .blocks) (omega (arith, counted-most (a .blocks) (few c))))
+    omega (arith, places-few (a .n) t (a .hops) (omega (arith, counted-most (a .hops) (few c))))
 
 returns-3 : tie.Need-returns-3
 unfolding shaped

@@ -1,13 +1,13 @@
 -- `synthesise_recording` meets its contract: the causes in their order, each with the number that its law gives.
 use mathlib.Core.Path.{_≡_, sym, _∙_}
 use mathlib.Core.Bool.{true}
-use Prim.Native.Nat.{_*_, _/_, _≤_}
+use Prim.Native.Nat.{_+_, _*_, _/_, _≤_}
 use native.Mathlib.Omega.{arith}
 use lib.Dec.{T}
 use borrow.Author.Tests.{not-true, not-false}
 use Rattle.cosine.specs.Kernels.{tabled}
 use Rattle.checks.specs.Limits.{inRange, counted}
-use Rattle.checks.specs.LimitLaws.{range-small, counted-most, places-few}
+use Rattle.checks.specs.LimitLaws.{range-small, counted-some, counted-most, places-few}
 use Rattle.recording_calls.specs.Recordings.{playedCauses}
 use Rattle.checks.specs.Causes.First.{none, stop, pass}
 use Rattle.checks.specs.CauseLaws.{same, differs}
@@ -27,7 +27,7 @@ returns : tie.Need-returns
 unfolding playedCauses
 returns c =
     let a = c .before .before .args in
-    played-answer (a .n) (a .blocks) (a .x .now) (a .out .now) (stop (sym (c .before .is-tabled .ensures) ∙ not-true (c .before .is-tabled .result) (c .if1 .taken)))
+    played-answer (a .n) (a .hops) (a .x .now) (a .out .now) (stop (sym (c .before .is-tabled .ensures) ∙ not-true (c .before .is-tabled .result) (c .if1 .taken)))
 
 is-counted-requires : tie.Need-is-counted-requires
 is-counted-requires c κs = search needs
@@ -36,36 +36,42 @@ returns-2 : tie.Need-returns-2
 unfolding playedCauses
 returns-2 c =
     let a = c .before .before .before .before .args in
-    played-answer (a .n) (a .blocks) (a .x .now) (a .out .now)
+    played-answer (a .n) (a .hops) (a .x .now) (a .out .now)
     (pass (good (c .before .before)) (stop (sym (c .before .is-counted .ensures) ∙ not-true (c .before .is-counted .result) (c .if2 .taken))))
 
-few : (c : tie.Else2) → counted (c .before .before .before .before .args .blocks) ≡ true
+few : (c : tie.Else2) → counted (c .before .before .before .before .args .hops) ≡ true
 few c = sym (c .before .is-counted .ensures) ∙ not-false (c .before .is-counted .result) (c .if2 .left)
 
 tab : (c : tie.Else2) → T (tabled (c .before .before .before .before .args .n))
 tab c = rw (good (c .before .before)) tt
 
-most : (c : tie.Else2) → c .before .before .before .before .args .blocks ≤ 4096
-most c = counted-most (c .before .before .before .before .args .blocks) (few c)
+most : (c : tie.Else2) → c .before .before .before .before .args .hops ≤ 4095
+most c = counted-most (c .before .before .before .before .args .hops) (few c)
+
+add-count : tie.Need-add-count
+add-count c = omega (arith, most c)
 
 mul-count : tie.Need-mul-count
 mul-count c =
     let a = c .before .before .before .before .args in
-    omega (arith, places-few (a .n) (tab c) (a .blocks) (omega (arith, most c)))
+    omega (arith, places-few (a .n) (tab c) (a .hops + 1) (omega (arith, most c)))
 
 returns-3 : tie.Need-returns-3
 unfolding playedCauses
 returns-3 c =
     let e = c .before in
     let a = e .before .before .before .before .args in
-    played-answer (a .n) (a .blocks) (a .x .now) (a .out .now) (pass (good (e .before .before)) (pass (few e) (differs (c .if3 .taken))))
+    played-answer (a .n) (a .hops) (a .x .now) (a .out .now) (pass (good (e .before .before)) (pass (few e) (differs (c .if3 .taken))))
+
+mul-if4 : tie.Need-mul-if4
+mul-if4 c = search needs
 
 returns-4 : tie.Need-returns-4
 unfolding playedCauses
 returns-4 c =
     let e = c .before .before in
     let a = e .before .before .before .before .args in
-    played-answer (a .n) (a .blocks) (a .x .now) (a .out .now)
+    played-answer (a .n) (a .hops) (a .x .now) (a .out .now)
     (pass (good (e .before .before)) (pass (few e) (same (c .before .if3 .left) (differs (c .if4 .taken)))))
 
 in-range-requires : tie.Need-in-range-requires
@@ -77,11 +83,11 @@ returns-5 c =
     let f = c .before .before in
     let e = f .before .before in
     let a = e .before .before .before .before .args in
-    played-answer (a .n) (a .blocks) (a .x .now) (a .out .now)
+    played-answer (a .n) (a .hops) (a .x .now) (a .out .now)
     (pass (good (e .before .before)) (pass (few e) (same (f .before .if3 .left) (same (f .if4 .left)
     (stop (sym (c .before .in-range .ensures) ∙ not-true (c .before .in-range .result) (c .if5 .taken)))))))
 
-ranged : (c : tie.Else5) → let a = c .before .before .before .before .before .before .before .before .args in inRange (a .blocks * (a .n / 2)) (a .x .now) ≡ true
+ranged : (c : tie.Else5) → let a = c .before .before .before .before .before .before .before .before .args in inRange ((a .hops + 1) * (a .n / 2)) (a .x .now) ≡ true
 ranged c = sym (c .before .in-range .ensures) ∙ not-false (c .before .in-range .result) (c .if5 .left)
 
 synthesise-requires : tie.Need-synthesise-requires
@@ -89,7 +95,7 @@ synthesise-requires c κs =
     let f = c .before .before .before in
     let e = f .before .before in
     let a = e .before .before .before .before .args in
-    (tab e, most e, f .before .if3 .left, range-small (a .x .now) (a .blocks * (a .n / 2)) (f .before .if3 .left) (ranged (c .before)), f .if4 .left)
+    ((tab e, counted-some (a .hops) (few e), most e, range-small (a .x .now) ((a .hops + 1) * (a .n / 2)) (f .before .if3 .left) (ranged (c .before))), (f .before .if3 .left, f .if4 .left))
 
 same-length : tie.Need-same-length
 same-length c = search needs
@@ -101,7 +107,7 @@ returns-6 c =
     let f = g .before .before in
     let e = f .before .before in
     let a = e .before .before .before .before .args in
-    let t = played-answer (a .n) (a .blocks) (a .x .now) (a .out .now)
+    let t = played-answer (a .n) (a .hops) (a .x .now) (a .out .now)
     (pass (good (e .before .before)) (pass (few e) (same (f .before .if3 .left) (same (f .if4 .left) (pass (ranged g) none))))) in
     (t .0, c .before .synthesise .ensures ∙ t .1)
 
@@ -113,8 +119,10 @@ synthesise-recording-spec =
     returns
     is-counted-requires
     returns-2
+    add-count
     mul-count
     returns-3
+    mul-if4
     returns-4
     in-range-requires
     returns-5

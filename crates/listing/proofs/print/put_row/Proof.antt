@@ -17,7 +17,7 @@ use Rattle.text.specs.Lines.{more, line}
 use Rattle.text.specs.Buffers.{Put}
 use Rattle.text.specs.BufferLaws.{put-none, put-then, put-length}
 use Rattle.listing.specs.Print.{row}
-use Rattle.listing.specs.PrintLaws.{decimal-most, printed-most, samples-next}
+use Rattle.listing.specs.PrintLaws.{decimal-short, printed-most, samples-next}
 use Rattle.listing.proofs.print.put_row.Statement.{statement}
 use Rattle.listing.proofs.print.put_row.Tie as tie
 
@@ -46,7 +46,7 @@ module _ (c : tie.At-loop Inv-loop μ-loop) where
 
   -- there is room for the samples left, and for the line feed
   room : c .loop .at + (7 * (length xs - c .loop .i) + 1) ≤ length (c .loop .out)
-  room = omega (arith, c .loop .inv .2, put-length (c .loop .inv .1), behind, kept, decimal-most (start .args .hop) (start .pre .0))
+  room = omega (arith, c .loop .inv .2, put-length (c .loop .inv .1), behind, kept, decimal-short (start .args .hop) (start .pre .0))
 
 -- the sample at i, as the machine has it
 module _ (c : tie.After-put-field-arg Inv-loop μ-loop) where
@@ -66,7 +66,7 @@ module _ (c : tie.After-put-field-arg Inv-loop μ-loop) where
   is = rw (toZ-ofZ fits) (toZ-ofZ wide)
 
 put-digits-requires : tie.Need-put-digits-requires Inv-loop μ-loop
-put-digits-requires c κs = let s = c .before .before in omega (arith, decimal-most (s .args .hop) (s .pre .0))
+put-digits-requires c κs = let s = c .before .before in omega (arith, decimal-short (s .args .hop) (s .pre .0))
 
 loop-holds : tie.Need-loop-holds Inv-loop μ-loop
 unfolding more
