@@ -1,7 +1,7 @@
 //! The library held against the reference, call by call.
 use crate::inputs::*;
 use crate::library;
-use crate::reference::{tail_limit, Bank, Route, COEFFICIENT_LIMIT, HOPS, LENGTHS, STATE};
+use crate::reference::{page_length, tail_limit, Bank, Route, COEFFICIENT_LIMIT, HOPS, LENGTHS, STATE};
 use std::fmt::Debug;
 
 const MARGIN: usize = 40;
@@ -45,6 +45,24 @@ struct Compare {
 fn mismatch(call: &str, input: &dyn Debug, library: &dyn Debug, reference: &dyn Debug) -> ! {
     println!("differential: {call} answers otherwise than the documents\n  input:     {input:?}\n  library:   {library:?}\n  reference: {reference:?}");
     std::process::exit(1);
+}
+
+/// The number that stands in columns behind blanks alone; None for blanks.
+fn read(columns: &[u8]) -> Option<i32> {
+    let text = std::str::from_utf8(columns).expect("a page is ASCII").trim_start_matches(' ');
+    (!text.is_empty()).then(|| text.parse().expect("a number in its columns"))
+}
+
+/// The coefficients of a page, each from its columns. The first line of a block bears its number, the others none.
+fn read_page(n: usize, text: &[u8]) -> Vec<i32> {
+    let mut x = Vec::new();
+    for (g, line) in text.chunks(81).enumerate() {
+        let first = g % (n / 12) == 0;
+        assert_eq!(read(&line[..8]), first.then(|| (g / (n / 12)) as i32));
+        assert_eq!(line[80], b'\n');
+        x.extend(line[8..80].chunks(12).filter_map(read));
+    }
+    x
 }
 
 impl Compare {
@@ -106,6 +124,16 @@ impl Compare {
         self.call("synthesise_recording", &(n, hops), x, output, library, |bank, x, out| {
             bank.synthesise_recording(n, hops, x, out)
         })
+    }
+
+    /// A page that is taken is read back, too.
+    fn page(&mut self, n: usize, hops: usize, x: &[i32], length: usize) {
+        let output = self.rubbish(length, |z| z as u8);
+        let library = |x: &[i32], out: &mut [u8]| library::page(n, hops, x, out);
+        let (number, text) = self.call("page", &(n, hops), x, output, library, |bank, x, out| bank.page(n, hops, x, out));
+        if number == 0 {
+            assert_eq!(read_page(n, &text), x);
+        }
     }
 
     fn stream_fresh(&mut self, n: usize, state: Vec<i64>) -> (u32, Vec<i64>) {
@@ -348,6 +376,46 @@ impl Compare {
         self.synthesise_recording(n, hops, &x, wide);
     }
 
+    fn pages(&mut self, n: usize) {
+        let m = n / 2;
+        for hops in [1, 2, 3, 4, 9, 10, 20, 99, 100] {
+            for _ in 0..40 {
+                let (count, length) = (self.some_length((hops + 1) * m), self.some_length(page_length(n, hops)));
+                let x = self.some_coefficients(count);
+                let (named_n, named) = (self.some_n(n), self.some_hops(hops));
+                self.page(named_n, named, &x, length);
+            }
+        }
+        // a coefficient at each end of its range, beyond it, and beside every power of ten, at every place of two blocks
+        let tens = (0..9).map(|d| 10i32.pow(d)).flat_map(|p| [p, p - 1, -p, 1 - p]);
+        let sizes: Vec<i32> = [COEFFICIENT_LIMIT, -COEFFICIENT_LIMIT].into_iter().chain(BEYOND).chain(tens).collect();
+        for at in 0..n {
+            for &size in &sizes {
+                let mut x = coefficients(&mut self.random, n);
+                x[at] = size;
+                self.page(n, 1, &x, page_length(n, 1));
+            }
+        }
+        // numbers of hops whose products wrap round to the lengths handed in
+        for hops in [0, 1 << 62, 1 << 63, (1 << 63) + 1, (1 << 62) + 3, usize::MAX] {
+            let blocks = hops.wrapping_add(1);
+            for count in [blocks.wrapping_mul(m), n] {
+                for length in [blocks.wrapping_mul(n / 12 * 81), page_length(n, 1)] {
+                    if count < 1000 && length < 10_000 {
+                        let x = coefficients(&mut self.random, count);
+                        self.page(n, hops, &x, length);
+                    }
+                }
+            }
+        }
+        // the longest, with its last coefficient in range and beyond it, and one hop more
+        for (hops, last) in [(HOPS, 1), (HOPS, COEFFICIENT_LIMIT + 1), (HOPS + 1, 1)] {
+            let mut x = coefficients(&mut self.random, (hops + 1) * m);
+            x[hops * m + m - 1] = last;
+            self.page(n, hops, &x, page_length(n, hops));
+        }
+    }
+
     /// Changes of a block's coefficients, each from -q to q. A place turns them all one way at that place of the block.
     fn changed(&mut self, n: usize, x: &[i32], q: i64, kind: usize, place: usize) -> Vec<i32> {
         let limit = i64::from(COEFFICIENT_LIMIT);
@@ -466,6 +534,7 @@ pub fn run(bank: Bank, seed: u64) -> u64 {
         compare.steps(n);
         compare.forged(n);
         compare.recordings(n);
+        compare.pages(n);
         compare.round_trips(n);
     }
     compare.calls

@@ -37,6 +37,7 @@ extern "C" {
         samples: *mut i16,
         samples_length: usize,
     ) -> u32;
+    fn dapplescree_page(n: usize, hops: usize, coefficients: *const i32, coefficients_length: usize, page: *mut u8, page_length: usize) -> u32;
 }
 
 // Each pointer and length below come from one slice, and slices lent by & and &mut do not overlap.
@@ -67,4 +68,8 @@ pub fn analyse_recording(route: Route, n: usize, hops: usize, x: &[i16], out: &m
 
 pub fn synthesise_recording(n: usize, hops: usize, x: &[i32], out: &mut [i16]) -> u32 {
     unsafe { dapplescree_synthesise_recording(n, hops, x.as_ptr(), x.len(), out.as_mut_ptr(), out.len()) }
+}
+
+pub fn page(n: usize, hops: usize, x: &[i32], out: &mut [u8]) -> u32 {
+    unsafe { dapplescree_page(n, hops, x.as_ptr(), x.len(), out.as_mut_ptr(), out.len()) }
 }

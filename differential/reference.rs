@@ -1,4 +1,4 @@
-//! Document 01, with P1 of document 02, written out anew: exact series, naive sums, floored division. It shares no table with any other file.
+//! Document 01, with P1 and P2 of document 02, written out anew: exact series, naive sums, floored division. It shares no table with any other file.
 
 /// A natural number of any size, in base 2^64, lowest digit first.
 #[derive(Clone)]
@@ -325,6 +325,34 @@ impl Bank {
         }
         0
     }
+
+    pub fn page(&self, n: usize, hops: usize, x: &[i32], out: &mut [u8]) -> u32 {
+        if !tabled(n) {
+            return 1;
+        }
+        let m = n / 2;
+        if hops < 1 || hops > HOPS || x.len() != (hops + 1) * m || out.len() != page_length(n, hops) {
+            return 2;
+        }
+        if beyond(x) {
+            return 3;
+        }
+        let mut text = String::new();
+        for (b, block) in x.chunks(m).enumerate() {
+            for (i, six) in block.chunks(6).enumerate() {
+                text += &if i == 0 { format!("{b:>8}") } else { " ".repeat(8) };
+                text.extend(six.iter().map(|z| format!("{z:>12}")));
+                text += "\n";
+            }
+        }
+        out.copy_from_slice(text.as_bytes());
+        0
+    }
+}
+
+/// A line of 80 columns and a line feed for every six coefficients.
+pub fn page_length(n: usize, hops: usize) -> usize {
+    (hops + 1) * (n / 2 / 6) * 81
 }
 
 fn beyond(x: &[i32]) -> bool {

@@ -61,6 +61,7 @@ fn holds(bank: &Bank, line: &str) -> bool {
         ["synthesise_recording", n, hops, x, length, code, out] => {
             agrees(length, code, out, |b| bank.synthesise_recording(number(n), number(hops), &list(x), b))
         }
+        ["page", n, hops, x, length, code, out] => agrees(length, code, out, |b| bank.page(number(n), number(hops), &list(x), b)),
         _ => false,
     }
 }

@@ -22,8 +22,8 @@
  * aligned, and points to as many entries as the length that follows it says; the buffers of one call do not overlap; nothing else writes to
  * them, or reads what is being written, until the call returns. A size is without a sign: a negative number handed in for one arrives as a
  * huge size, and is refused as such. The numbers returned, and what each buffer then holds, are the contracts of crates/c_face/src/lib.rt,
- * which are proved; what is said of chains of states and of the distance of returned sound are theorems of crates/demands over the same
- * definitions.
+ * which are proved; what is said of chains of states, of the distance of returned sound and of reading a page are theorems of crates/demands
+ * over the same definitions.
  */
 #ifndef DAPPLESCREE_H
 #define DAPPLESCREE_H
@@ -37,6 +37,9 @@ extern "C" {
 
 /* The entries of a state: N, and then the tail's storage. Write the name and not the number: later versions have another. */
 #define DAPPLESCREE_STATE 37
+
+/* The bytes of a page of `hops` hops at the tabled length n: a line of 81 for every six coefficients. It reads each argument once. */
+#define DAPPLESCREE_PAGE(n, hops) (((size_t)(hops) + 1) * ((size_t)(n) / 12) * 81)
 
 /* One block, analysed directly.
  *   1  n is not tabled
@@ -107,6 +110,21 @@ uint32_t dapplescree_analyse_recording_short(size_t n, size_t hops, const int16_
  */
 uint32_t dapplescree_synthesise_recording(size_t n, size_t hops, const int32_t *coefficients, size_t coefficients_length,
     int16_t *samples, size_t samples_length);
+
+/* The coefficients of a whole recording of `hops` hops, printed as a page. A line is 80 columns and a line feed: columns 1 to 8 hold the number
+ * of a block on its first line and blanks on its other lines, and six coefficients follow in 12 columns each, all right aligned.
+ *   1  n is not tabled
+ *   2  hops is not 1 to 4095
+ *   2  coefficients_length is not (hops + 1) * M, or page_length is not DAPPLESCREE_PAGE(n, hops)
+ *   3  a coefficient is beyond its limit, in whichever block
+ *   0  page[81 * g + c] is column c + 1 of line g, c below 80, and page[81 * g + 80] a line feed, g below (hops + 1) * M / 6; line g holds
+ *      coefficients[6 * g] .. coefficients[6 * g + 5], and is the first line of block b, b from 0 to hops, where 6 * g is b * M
+ * A number is decimal digits, the first of them 0 in the number 0 alone, behind a minus sign where it is below 0; the columns in front of it are
+ * blanks. The page is ASCII, and no zero byte ends it. -536870912 has ten characters, so two blanks at least stand before every coefficient, and
+ * each is read back from its 12 columns.
+ */
+uint32_t dapplescree_page(size_t n, size_t hops, const int32_t *coefficients, size_t coefficients_length, uint8_t *page,
+    size_t page_length);
 
 #ifdef __cplusplus
 }

@@ -1,4 +1,4 @@
-"""Document 01, with P1 of document 02, in exact whole numbers, as plainly as they are written: the source of every stored output.
+"""Document 01, with P1 and P2 of document 02, in exact whole numbers, as plainly as they are written: the source of every stored output.
 It shares no table, folding or rounding with the crates."""
 from fractions import Fraction
 from functools import cache
@@ -124,6 +124,23 @@ def hops(N, spectra):
     return returned[1:]
 
 
+# Pages. X is the (H + 1) × M coefficients of a recording.
+
+LINE = 81
+
+
+def page_length(N, H):
+    return (H + 1) * (N // 12) * LINE
+
+
+def page_lines(N, X):
+    """The lines of a page: a block's number in 8 columns, blank but on its first line, and six coefficients in 12 each."""
+    M = N // 2
+    for at in range(0, len(X), 6):
+        number = str(at // M) if at % M == 0 else ""
+        yield number.rjust(8) + "".join(str(c).rjust(12) for c in X[at : at + 6]) + "\n"
+
+
 # The calls. Each gives its number and what it writes; None: every buffer and stream is left as it was.
 # A stream is N and the STORAGE entries of its tail. A buffer that is only written stands as its length.
 
@@ -184,6 +201,17 @@ def synthesise_recording(N, H, X, length):
     if beyond(X):
         return 3, None
     return 0, [s for hop in hops(N, [X[at : at + M] for at in range(0, len(X), M)]) for s in hop]
+
+
+def page(N, H, X, length):
+    """The number and the page's bytes."""
+    if N not in LENGTHS:
+        return 1, None
+    if not 1 <= H <= HOPS or len(X) != (H + 1) * (N // 2) or length != page_length(N, H):
+        return 2, None
+    if beyond(X):
+        return 3, None
+    return 0, "".join(page_lines(N, X)).encode()
 
 
 def inner(N, H, out):

@@ -4,14 +4,14 @@ import random
 import sys
 
 import bank
-from bank import COEFFICIENT_LIMIT, HOPS, LENGTHS, ROUTES, STATE, STORAGE, tail_limit
+from bank import COEFFICIENT_LIMIT, HOPS, LENGTHS, ROUTES, STATE, STORAGE, page_length, tail_limit
 
 rounds = int(sys.argv[1]) if len(sys.argv) > 1 else 25
 rng = random.Random(int(sys.argv[2]) if len(sys.argv) > 2 else 1)
 
 
 def line(*fields):
-    print(";".join("=" if f is None else ",".join(map(str, f)) if isinstance(f, list) else str(f) for f in fields))
+    print(";".join("=" if f is None else ",".join(map(str, f)) if isinstance(f, (list, bytes)) else str(f) for f in fields))
 
 
 def samples(count):
@@ -115,3 +115,8 @@ for _ in range(rounds):
         if rng.randrange(6) == 0:
             spoil(x)
         line("synthesise_recording", n, named, x, length, *bank.synthesise_recording(n, named, x, length))
+        H = rng.choice([1, 2, 3, 11])
+        x, named, length = coefficients(near((H + 1) * M)), near_hops(H), near(page_length(N, H))
+        if rng.randrange(6) == 0:
+            spoil(x)
+        line("page", n, named, x, length, *bank.page(n, named, x, length))

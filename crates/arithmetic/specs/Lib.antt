@@ -7,5 +7,6 @@ pub mod OrderLaws
 pub mod RoundingLaws
 pub mod SumLaws
 pub mod ListLaws
+pub mod JoinLaws
 pub mod TestLaws
 pub mod SampleLaws

@@ -75,12 +75,12 @@ module _ {A : Type 0} (f : ℕ → A) where
       ∙ rw n at (getD-drop k out₀ 0 d)
 
 -- ---- a part of a list: m entries from place p
-module _ (xs : List ℤ) (p n m : ℕ) (is : n ≡ m) (fits : p + m ≤ length xs) where
-  pub part-length : length (take n (drop p xs)) ≡ m
-  part-length = length-take-le n (drop p xs) (omega (arith, length-drop p xs)) ∙ is
+pub part-length : {A : Type 0} (xs : List A) (p n m : ℕ) → n ≡ m → p + m ≤ length xs → length (take n (drop p xs)) ≡ m
+part-length xs p n m is fits = length-take-le n (drop p xs) (omega (arith, length-drop p xs)) ∙ is
 
+module _ (xs : List ℤ) (p n m : ℕ) (is : n ≡ m) (fits : p + m ≤ length xs) where
   pub part-at : (i : ℕ) → i < m → at (take n (drop p xs)) i ≡ at xs (p + i)
   part-at i h = getD-take n (drop p xs) i (pos 0) (omega arith) ∙ getD-drop p xs i (pos 0)
 
   pub part-small : (B : ℕ) → Small xs B → Small (take n (drop p xs)) B
-  part-small B s = record { small = λ i h. rw (part-at i (omega (arith, part-length))) (s .small (p + i) (omega (arith, part-length))) }
+  part-small B s = record { small = λ i h. rw (part-at i (omega (arith, part-length xs p n m is fits))) (s .small (p + i) (omega (arith, part-length xs p n m is fits))) }

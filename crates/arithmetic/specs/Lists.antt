@@ -18,6 +18,11 @@ unfoldable pub table : {A : Type 0} → ℕ → (ℕ → A) → List A
 table zero f = []
 table (suc m) f = table m f ++ (f m ∷ [])
 
+-- the lists g 0, .., g (k - 1), one after the other
+unfoldable pub joined : {A : Type 0} → ℕ → (ℕ → List A) → List A
+joined zero g = []
+joined (suc k) g = joined k g ++ g k
+
 -- the test p holds of 0 .. n - 1
 unfoldable pub all : ℕ → (ℕ → Bool) → Bool
 all zero p = true

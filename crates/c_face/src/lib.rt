@@ -6,6 +6,7 @@ ghost use Rattle.analysis.specs.declared.Route.the-variants.{Direct, Short};
 ghost use Rattle.stream.specs.Synthesis.{storage};
 ghost use Rattle.block_calls.specs.Analysis.{analyseCode, analyseOut};
 ghost use Rattle.recording_calls.specs.Recordings.{recordedCode, recordedOut, playedCode, playedOut};
+ghost use Rattle.page.specs.Page.{pageCode, pageOut};
 ghost use Rattle.c_face.specs.Face.{lengthIn, freshCode, freshState, stepCode, stepState, stepOut};
 use analysis::Route;
 
@@ -135,4 +136,18 @@ pub extern "C" fn dapplescree_synthesise_recording(
     ensures { λ _. ⌜ now (samples .exit) ≡ playedOut n hops (now (coefficients .entry)) (now (samples .entry)) ⌝ }
 {
     filter_bank::synthesise_recording(n, hops, coefficients, samples)
+}
+
+// A recording's coefficients as a printed page: `page::page`. `bytes` is the header's `page`, which is a crate's name here.
+#[no_mangle]
+pub extern "C" fn dapplescree_page(
+    n: usize,
+    hops: usize,
+    coefficients: &[i32],
+    bytes: &mut [u8],
+) -> u32
+    ensures { λ r. ⌜ r ≡ pageCode n hops (now (coefficients .entry)) (now (bytes .entry)) ⌝ }
+    ensures { λ _. ⌜ now (bytes .exit) ≡ pageOut n hops (now (coefficients .entry)) (now (bytes .entry)) ⌝ }
+{
+    page::page(n, hops, coefficients, bytes)
 }

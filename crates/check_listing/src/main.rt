@@ -1,6 +1,6 @@
 // Listings through `round_trip`, compared with what vectors/listing.py makes from the definitions.
 ghost use mathlib.Core.Path.{_≡_};
-ghost use Prim.Native.Nat.{_≤_, _<_, _^_};
+ghost use Prim.Native.Nat.{_≤_, _<_};
 ghost use lib.ListN.{length};
 
 // Room for one byte more than a listing may have.
@@ -19,31 +19,15 @@ fn show(input: &[u8]) {
     report::word(&out[..r]);
 }
 
-// A sum that each byte and its place change.
-fn mixed(h: u64, b: u8) -> u64
-    requires { ⌜ h < 2 ^ 32 ⌝ }
-    ensures { λ r. ⌜ r < 2 ^ 32 ⌝ }
-{
-    (h * 31 + b as u64) % 4294967291
-}
-
-fn sum(s: &[u8]) -> u64 {
-    let mut h: u64 = 0;
-    for i in 0..s.len() {
-        h = mixed(h, s[i]);
-    }
-    h
-}
-
 // The lengths of an input and of what is printed for it, with the sums of both.
 fn tell(input: &[u8]) {
     let mut out = [165u8; listing::ROOM];
     let r = listing::round_trip(input, &mut out);
     report::word(b"bytes");
     report::count(input.len());
-    report::count(sum(input) as usize);
+    report::count(report::sum_bytes(input) as usize);
     report::count(r);
-    report::count(sum(&out[..r]) as usize);
+    report::count(report::sum_bytes(&out[..r]) as usize);
     report::end();
 }
 

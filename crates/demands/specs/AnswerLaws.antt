@@ -29,11 +29,12 @@ use Rattle.stream_calls.specs.Streams.{fresh, sound, stepCauses, stepCode, step
 use Rattle.checks.specs.LimitLaws.{range-small, counted-some, counted-most}
 use Rattle.stream_calls.specs.StreamLaws.{sound-tabled, sound-bounded, place-code, place-out, place-tail}
 use Rattle.recording_calls.specs.Recordings.{recordedCauses, recordedCode, recordedOut, playedCauses, playedCode, playedOut, shaped, innerOf}
+use Rattle.page.specs.Page.{pageOf, pageCauses, pageCode, pageOut}
 use Rattle.c_face.specs.Face as F
 use Rattle.c_face.specs.StateLaws.{fresh-holds, fresh-long, same-code, same-out, same-stream, same-long}
 use Rattle.demands.specs.ListingAnswerLaws.{listing-answers}
 use Rattle.demands.specs.StepLaws.{abs-within, sound-of, code-other, refused-stream, refused-buffer}
-use Rattle.demands.specs.Demands.{Tabled, Counted, InRange, SoundTail, AnalyseAnswers, FreshAnswers, StepAnswers, streamOf, PlaceAnswers, RecordedAnswers, PlayedAnswers, InnerAnswers, StateFreshAnswers, StateStepAnswers, Demand-1}
+use Rattle.demands.specs.Demands.{Tabled, Counted, InRange, SoundTail, AnalyseAnswers, FreshAnswers, StepAnswers, streamOf, PlaceAnswers, RecordedAnswers, PlayedAnswers, InnerAnswers, PageAnswers, StateFreshAnswers, StateStepAnswers, Demand-1}
 
 -- ---- the causes as tests
 module _ (H : ℕ) where
@@ -163,6 +164,21 @@ inner-answers N H out =
       whole = λ t k e. let g : tabled N ≡ true = is-true t in rw (g, counts H k, eq-eqb l m e);
     }
 
+page-answers : (N H : ℕ) (x : List ℤ) (out : List ℕ) → PageAnswers N H x out
+unfolding pageCauses pageCode pageOut
+page-answers N H x out =
+    let m = (H + 1) * (N / 2) in
+    let cs = pageCauses N H x out in
+    record {
+      one = λ n. first-is cs (stop (is-false n));
+      two-hops = λ t n. first-is cs (pass (is-true t) (stop (counts-not H n)));
+      two-in = λ t n. first-is cs (pass (is-true t) (beside (differs n)));
+      two-out = λ t n. first-is cs (pass (is-true t) (beside (beside (differs n))));
+      three = λ t k l f n. first-is cs (pass (is-true t) (pass (counts H k) (same l (same f (stop (ranges-not x m l n))))));
+      taken = λ t k l f r. first-is cs (pass (is-true t) (pass (counts H k) (same l (same f (pass (ranges x m l r) none)))));
+      kept = λ r. code-other (pageCode N H x out) (pageOf N H x) out r;
+    }
+
 -- ---- the calls for C on a state
 state-fresh-answers : (N : ℕ) (state : List ℤ) → StateFreshAnswers N state
 unfolding F.freshCauses F.freshCode F.freshState
@@ -229,6 +245,7 @@ demand-1 = record {
   recorded = recorded-answers;
   played = played-answers;
   inner = inner-answers;
+  paged = page-answers;
   state-made = state-fresh-answers;
   state-stepped = state-step-answers;
   listed = listing-answers;

@@ -5,14 +5,12 @@ use mathlib.Core.List.{List}
 use Prim.Native.Nat.{ℕ, suc, _+_, _*_, _/_, _%_, _^_, _≤_, _<_}
 use native.Mathlib.Omega.{arith}
 use lib.Dec.{T}
-use lib.ListN.{length, drop, length-drop}
-use lib.Seq.{getD-drop}
+use lib.ListN.{length}
 use lib.IntN.{ℤ, pos, natAbs, _-ℤ_, _+ℤ_}
 use Rattle.arithmetic.specs.Lists.{at}
 use Rattle.arithmetic.specs.ListLaws.{part-at}
 use Rattle.arithmetic.specs.Rounding.{rnd, clamp, Sample}
 use Rattle.cosine.specs.Kernels.{tabled, rising, falling}
-use Rattle.cosine.specs.LengthLaws.{length-of}
 use Rattle.transform.specs.Synthesis.{V′}
 use Rattle.stream.specs.Steps.{returned}
 use Rattle.stream.specs.NextLaws.{returned-long, returned-at}
@@ -20,7 +18,7 @@ use Rattle.analysis.specs.declared.Route.{Route}
 use Rattle.analysis.specs.declared.Route.the-variants.{Direct}
 use Rattle.analysis.specs.Analysis.{offered, coefficients}
 use Rattle.recording.specs.Recordings.{block, part, analysis, synthesis}
-use Rattle.recording.specs.JoinLaws.{within, joined-length, joined-at}
+use Rattle.arithmetic.specs.JoinLaws.{Place, within, joined-length, joined-at}
 use Rattle.analysis.specs.AnalysisLaws.{coefficients-length}
 use Rattle.recording.specs.RecordingLaws.{part-length-is}
 use Rattle.block_calls.specs.AnalysisLaws.{analysed-offered, analyse-taken}
@@ -29,7 +27,7 @@ use Rattle.recording_calls.specs.Recordings.{playedCode, playedOut, innerOf}
 use Rattle.checks.specs.LimitLaws.{counted-some}
 use Rattle.recording_calls.specs.RecordingLaws.{Recorded, recorded-facts, recorded-taken, Played, played-facts, played-taken, shaped-of}
 use Rattle.demands.specs.Steps.{Recording, Brought, provedChange}
-use Rattle.demands.specs.RecordingLaws.{Hop, hop-of, back-near, back-same, near-asked}
+use Rattle.demands.specs.RecordingLaws.{hop-of, back-near, back-same, near-asked}
 use Rattle.demands.specs.Recordings.{ByOneCall, BlockByBlock, Back, SharperBack}
 
 module _ (N H Q : ℕ) (routes : ℕ → Route) (x X out : List ℤ) (rec : Recording N H x) (played : playedCode N H X out ≡ 0)
@@ -54,7 +52,7 @@ module _ (N H Q : ℕ) (routes : ℕ → Route) (x X out : List ℤ) (rec : Reco
 
   left-long : length left ≡ H * (N / 2)
   unfolding synthesis
-  left-long = ap length left-is ∙ joined-length hops (N / 2) (λ h. returned-long N (part N X) (suc h)) H
+  left-long = ap length left-is ∙ joined-length hops (N / 2) H (λ h p. returned-long N (part N X) (suc h)) H (omega arith)
 
   -- the M coefficients of block b
   part-entry : (b : ℕ) → b ≤ H → (k : ℕ) → k < N / 2 → at (part N X b) k ≡ at X (b * (N / 2) + k)
@@ -75,7 +73,7 @@ module _ (N H Q : ℕ) (routes : ℕ → Route) (x X out : List ℤ) (rec : Reco
   unfolding synthesis
   left-at h n p q =
       ap (λ (l : List ℤ). at l (h * (N / 2) + n)) left-is
-      ∙ joined-at hops (N / 2) (λ h. returned-long N (part N X) (suc h)) H h n p q
+      ∙ joined-at hops (N / 2) H (λ h p. returned-long N (part N X) (suc h)) (pos 0) H h n (omega arith) p q
       ∙ returned-at N (part N X) h n q
 
   -- ---- sample i: hop h, place n
@@ -86,20 +84,20 @@ module _ (N H Q : ℕ) (routes : ℕ → Route) (x X out : List ℤ) (rec : Reco
     abbrev n : ℕ
     n = i % (N / 2)
 
-    lies : Hop N H i
+    lies : Place (N / 2) H i
     lies = hop-of N tab H i p
 
     near-at : natAbs (at left i -ℤ at x i) ≤ (3 * provedChange Q (routes h) (routes (suc h)) + 36) / 64
     near-at =
-        rw (ap (at left) (sym (lies .place)) ∙ left-at h n (lies .within) (lies .less), ap (at x) (sym (lies .place)))
-        (back-near N tab H x rec Q routes h (part N X h) (part N X (suc h)) (brought h (omega (arith, lies .within))) (brought (suc h) (lies .within)) n (lies .less))
+        rw (ap (at left) (sym (lies .is)) ∙ left-at h n (lies .before) (lies .less), ap (at x) (sym (lies .is)))
+        (back-near N tab H x rec Q routes h (part N X h) (part N X (suc h)) (brought h (omega (arith, lies .before))) (brought (suc h) (lies .before)) n (lies .less))
 
     same-at : Q ≤ 9 → routes h ≡ Direct → routes (suc h) ≡ Direct → at left i ≡ at x i
     same-at q e f =
-        ap (at left) (sym (lies .place))
-        ∙ left-at h n (lies .within) (lies .less)
-        ∙ back-same N tab H x rec Q routes h (part N X h) (part N X (suc h)) (brought h (omega (arith, lies .within))) (brought (suc h) (lies .within)) q e f n (lies .less)
-        ∙ ap (at x) (lies .place)
+        ap (at left) (sym (lies .is))
+        ∙ left-at h n (lies .before) (lies .less)
+        ∙ back-same N tab H x rec Q routes h (part N X h) (part N X (suc h)) (brought h (omega (arith, lies .before))) (brought (suc h) (lies .before)) q e f n (lies .less)
+        ∙ ap (at x) (lies .is)
 
   pub back : Back N H Q routes x (playedOut N H X out) × SharperBack N H Q routes x (playedOut N H X out)
   unfolding left innerOf
@@ -124,7 +122,7 @@ back-by-one-call N H Q route x X out samples given played =
     let rec : Recording N H x = record { hops = counted-some H (f .hops); long = f .long; sample = samples } in
     back N H Q (λ b. route) x X out rec played (λ b p. is-T (f .offers))
     (λ b p k q.
-    let e = joined-at (λ b. coefficients route N (block N x b)) (N / 2) (λ b. coefficients-length route N (block N x b)) (H + 1) b k (omega arith) q in
+    let e = joined-at (λ b. coefficients route N (block N x b)) (N / 2) (H + 1) (λ b p. coefficients-length route N (block N x b)) (pos 0) (H + 1) b k (omega arith) (omega arith) q in
     rw (e) at (rw (← is) at (given .near (b * (N / 2) + k) (omega (arith, within b (H + 1) (N / 2) (omega arith))))))
 
 -- the blocks were analysed one by one, each by its own route

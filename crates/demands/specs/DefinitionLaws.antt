@@ -2,7 +2,6 @@
 use mathlib.Core.Path.{_≡_, refl, sym, ap, _∙_}
 use mathlib.Core.List.{List, _∷_, _++_, append-assoc, append-nil}
 use Prim.Native.Nat.{ℕ, zero, suc, _+_, _-_, _*_, _/_, _^_, _≤_, _<_}
-use native.Mathlib.Nat.{add-mul, one-mul}
 use native.Mathlib.Omega.{arith}
 use native.Mathlib.Decide.{decLt}
 use lib.Dec.{T}
@@ -11,8 +10,8 @@ use lib.Seq.{drop-at}
 use lib.IntN.{ℤ, pos, natAbs, _+ℤ_, _-ℤ_}
 use Rattle.arithmetic.specs.Rounding.{rnd, clamp, Sample}
 use Rattle.arithmetic.specs.RoundingLaws.{sample-abs}
-use Rattle.arithmetic.specs.Lists.{at}
-use Rattle.arithmetic.specs.ListLaws.{getD-table, part-length}
+use Rattle.arithmetic.specs.Lists.{at, joined}
+use Rattle.arithmetic.specs.ListLaws.{getD-table}
 use Rattle.arithmetic.specs.TestLaws.{cond-lt, cond-ge, is-T}
 use Rattle.cosine.specs.Kernels.{tabled, W, rising, falling}
 use Rattle.cosine.specs.LengthLaws.{length-of, part-of}
@@ -31,9 +30,9 @@ use Rattle.stream.specs.NextLaws.{hop-long, hop-at, next-n, next-at, next-kept,
 use Rattle.analysis.specs.declared.Route.{Route}
 use Rattle.analysis.specs.declared.Route.the-variants.{Direct, Short}
 use Rattle.analysis.specs.Analysis.{offered, coefficients}
-use Rattle.recording.specs.Recordings.{block, joined, part, analysis, synthesis}
+use Rattle.recording.specs.Recordings.{block, part, analysis, synthesis}
 use Rattle.recording.specs.BlockLaws.{block-long}
-use Rattle.recording.specs.JoinLaws.{joined-front, joined-length, joined-part}
+use Rattle.arithmetic.specs.JoinLaws.{joined-front, joined-length, joined-part}
 use Rattle.analysis.specs.AnalysisLaws.{offered-tabled, coefficients-length}
 use Rattle.recording.specs.RecordingLaws.{part-length-is, part-range, stream-fine}
 use Rattle.stream_calls.specs.declared.Made.{Made}
@@ -45,6 +44,10 @@ use Rattle.checks.specs.Limits.{tailLimit}
 use Rattle.stream_calls.specs.Streams.{stepCode}
 use Rattle.recording_calls.specs.Recordings.{recordedCode, recordedOut, playedCode}
 use Rattle.recording_calls.specs.RecordingLaws.{recorded-facts, recorded-taken, Played, played-facts, played-taken}
+use Rattle.checks.specs.LimitLaws.{counted-most}
+use Rattle.page.specs.Page.{pageCode, pageOut}
+use Rattle.page.specs.PageLaws.{page-count, page-ended, page-long, byte-at, columns-at, no-feed-at, number-at, apart-at, block-at, blanks-at, page-only}
+use Rattle.page.specs.AnswerLaws.{Paged, page-facts, page-taken}
 use Rattle.demands.specs.StepLaws.{taken-stream, taken-buffer}
 use Rattle.demands.specs.RecordingLaws.{windowed, by-direct, by-short}
 use Rattle.demands.specs.Steps.{Offer, Turn, answered, run, turns, Entry}
@@ -53,7 +56,7 @@ use Rattle.demands.specs.RunLaws.{code, answered-code, no-entry}
 use Rattle.demands.specs.StreamLaws.{fresh-is}
 use Rattle.demands.specs.AnswerLaws.{demand-1}
 use Rattle.demands.specs.Recordings.{offering, outputs}
-use Rattle.demands.specs.Demands.{SoundTail, y, X, V′, Analysed, Stepped-on, Recorded-on, Played-on, Demand-2}
+use Rattle.demands.specs.Demands.{SoundTail, y, X, V′, Analysed, Stepped-on, Recorded-on, Played-on, Paged-on, Demand-2}
 
 -- ---- the window of the sine joints is W
 window-is : (N n : ℕ) → A.window N (rising N) (falling N) n ≡ W N n
@@ -136,13 +139,13 @@ recorded-on route N H x out e =
     let t = offered-tabled route N (is-T (f .offers)) in
     let two : N / 2 + N / 2 ≡ N = omega (arith, length-of N t .twelve) in
     let g : ℕ → List ℤ = λ b. coefficients route N (block N x b) in
-    let size : (b : ℕ) → length (g b) ≡ N / 2 = λ b. coefficients-length route N (block N x b) in
+    let size : (b : ℕ) → b < H + 1 → length (g b) ≡ N / 2 = λ b p. coefficients-length route N (block N x b) in
     let is : recordedOut route N H x out ≡ joined (H + 1) g = sym (recorded-taken route N H x out e .1) in
     record {
-      long = rw is (joined-length g (N / 2) size (H + 1));
+      long = rw is (joined-length g (N / 2) (H + 1) size (H + 1) (omega arith));
       each = λ b p room l.
           let z = sym (analyse-answer route N (block N x b) room (pass (f .offers) (same (block-long N H two x (f .long) b p) (same l none))) .0) in
-          (z, rw is (joined-part g (N / 2) size (H + 1) b (omega arith)) ∙ analyse-taken route N (block N x b) room z .1);
+          (z, rw is (joined-part g (N / 2) (H + 1) size (H + 1) b (omega arith) (omega arith)) ∙ analyse-taken route N (block N x b) room z .1);
     }
 
 -- ---- and a synthesis is the steps of a stream
@@ -229,6 +232,39 @@ module _ (N H : ℕ) (x out : List ℤ) (e : playedCode N H x out ≡ 0) (rooms 
     hops = sym (played-taken N H x out e .1) ∙ all-but-first ∙ ap (drop (N / 2)) (joined-from B 0 (omega arith) ∙ ap outputs (sym turns-are));
   }
 
+-- ---- a printed page
+module _ (N H : ℕ) (x : List ℤ) (out : List ℕ) (e : pageCode N H x out ≡ 0) where
+  paged : Paged N H x
+  paged = page-facts N H x out e
+
+  hops-most : H ≤ 4095
+  hops-most = counted-most H (paged .hops)
+
+  paged-on : Paged-on N H x (pageOut N H x out)
+  paged-on =
+      let t = paged .length-is in
+      let long = paged .long in
+      let range = paged .range in
+      rw (page-taken N H x out e) (record {
+        is = refl;
+        long = page-long N t H hops-most x long range;
+        byte = byte-at N t H hops-most x long range;
+        count = page-count N t H hops-most x long range;
+        ended = page-ended N t H hops-most x long range;
+        columns-long = columns-at N t H hops-most x long range;
+        no-feed = no-feed-at N t H hops-most x long range;
+        number = number-at N t H hops-most x long range;
+        apart = apart-at N t H hops-most x long range;
+        block = block-at N t H hops-most x long range;
+        blanks = blanks-at N t H hops-most x long range;
+      })
+
+two-pages : (N H : ℕ) (x y : List ℤ) (out out′ : List ℕ) → pageCode N H x out ≡ 0 → pageCode N H y out′ ≡ 0 → pageOut N H x out ≡ pageOut N H y out′ → x ≡ y
+two-pages N H x y out out′ e f same =
+    let p = page-facts N H x out e in
+    let q = page-facts N H y out′ f in
+    page-only N (p .length-is) H (counted-most H (p .hops)) x y (p .long) (q .long) (p .range) (q .range) (sym (page-taken N H x out e) ∙ same ∙ page-taken N H y out′ f)
+
 pub demand-2 : Demand-2
 demand-2 = record {
   analysed = λ route N x out e. rw (analysed-is route N x out e) (coefficients-length route N x);
@@ -236,4 +272,6 @@ demand-2 = record {
   stepped = stepped-on;
   recorded = recorded-on;
   played = λ N H x out e rooms fit. played-on N H x out e rooms fit;
+  paged = paged-on;
+  pages = two-pages;
 }

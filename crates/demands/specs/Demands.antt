@@ -1,14 +1,14 @@
 -- THE THREE DEMANDS, for every signal, over the definitions that the contracts of the public calls cite (specs/ of block_calls, stream_calls,
--- recording_calls, c_face and listing). Each record below is one demand or a part of it; the theorems `demand-1`, `demand-2` and `demand-3` of DemandLaws prove them.
+-- recording_calls, page, c_face and listing). Each record below is one demand or a part of it; the theorems `demand-1`, `demand-2` and `demand-3` of DemandLaws prove them.
 --
 -- What the contracts add: a call ends on any numbers and any buffer lengths and never overflows, and what it returns and leaves is what these
 -- definitions say. A check of the public calls' crates proves that of the code.
 use mathlib.Core.Path.{_≡_}
 use mathlib.Core.Logic.{_≢_}
-use mathlib.Core.List.{List, [], _∷_}
-use Prim.Native.Nat.{ℕ, _+_, _*_, _/_, _^_, _≤_, _<_}
+use mathlib.Core.List.{List, [], _∷_, _++_}
+use Prim.Native.Nat.{ℕ, suc, _+_, _*_, _/_, _^_, _≤_, _<_}
 use lib.Dec.{T}
-use lib.ListN.{length, drop, getD}
+use lib.ListN.{length, take, drop, getD, replicate}
 use lib.IntN.{ℤ, pos, natAbs, _+ℤ_, _-ℤ_, _*ℤ_}
 use lib.Signed.{_<ℤ_}
 use Rattle.arithmetic.specs.Rounding.{rnd, clamp, Sample}
@@ -27,8 +27,10 @@ use Rattle.checks.specs.Limits.{tailLimit, coefficientLimit, hopLimit}
 use Rattle.stream_calls.specs.Streams.{fresh, stepCode, step, stepOut, placeCode, placeTail, placeOut}
 use Rattle.recording_calls.specs.Recordings.{recordedCode, recordedOut, playedCode, playedOut, innerOf}
 use Rattle.c_face.specs.Face.{entries, streamIn, freshCode, freshState, stepState, stepCode as stateCode, stepOut as stateOut}
+use Rattle.text.specs.Bytes.{lineFeed, blank}
 use Rattle.text.specs.Number.{isNumber, value}
-use Rattle.text.specs.Lines.{lines, remainder}
+use Rattle.text.specs.Lines.{indexOf, lines, remainder}
+use Rattle.page.specs.Page.{columns, pageOf, pageCode, pageOut, numberText, blockText, numberIn, blockIn}
 use Rattle.listing.specs.Hops.{digits, isHop}
 use Rattle.listing.specs.Verdicts.{limit}
 use Rattle.listing.specs.Print.{refusal}
@@ -38,7 +40,7 @@ use Rattle.demands.specs.Steps.{Offer, Turn, Entry, turns, final, Record
 use Rattle.demands.specs.Chains.{calls, held}
 use Rattle.demands.specs.Recordings.{ByOneCall, BlockByBlock, Back, SharperBack, offering, outputs}
 
--- ================ DEMAND 1: the whole work, or the numbered refusal of document 01, for recordings as document 02, P1, has it, with stream and buffers as they were
+-- ================ DEMAND 1: the whole work, or the numbered refusal of document 01, for recordings and pages as document 02, P1 and P2, has it, with stream and buffers as they were
 -- the causes of the table, in words of the input
 abbrev pub Tabled : ℕ → Type 0
 Tabled N = T (tabled N)
@@ -120,7 +122,17 @@ pub record InnerAnswers (N H : ℕ) (out : List ℤ) : Type 0 where
   pub empty-long : length out ≢ H * (N / 2) → innerOf N H out ≡ []
   pub whole : Tabled N → Counted H → length out ≡ H * (N / 2) → innerOf N H out ≡ out
 
--- the calls for C. Those on blocks and on whole recordings answer as those above: their contracts are the same definitions at a route by name.
+-- `page`: (H + 1) × M coefficients in, (H + 1) × (M / 6) lines of 81 bytes out
+pub record PageAnswers (N H : ℕ) (x : List ℤ) (out : List ℕ) : Type 0 where
+  pub one : ¬ Tabled N → pageCode N H x out ≡ 1
+  pub two-hops : Tabled N → ¬ Counted H → pageCode N H x out ≡ 2
+  pub two-in : Tabled N → length x ≢ (H + 1) * (N / 2) → pageCode N H x out ≡ 2
+  pub two-out : Tabled N → length out ≢ (H + 1) * (N / 2 / 6) * 81 → pageCode N H x out ≡ 2
+  pub three : Tabled N → Counted H → length x ≡ (H + 1) * (N / 2) → length out ≡ (H + 1) * (N / 2 / 6) * 81 → ¬ InRange x → pageCode N H x out ≡ 3
+  pub taken : Tabled N → Counted H → length x ≡ (H + 1) * (N / 2) → length out ≡ (H + 1) * (N / 2 / 6) * 81 → InRange x → pageCode N H x out ≡ 0
+  pub kept : pageCode N H x out ≢ 0 → pageOut N H x out ≡ out
+
+-- the calls for C. Those on blocks, on whole recordings and on pages answer as those above: their contracts are the same definitions at a route by name.
 -- `dapplescree_stream_fresh`: taken, the state holds the stream that `fresh` makes
 pub record StateFreshAnswers (N : ℕ) (state : List ℤ) : Type 0 where
   pub one : ¬ Tabled N → freshCode N state ≡ 1
@@ -174,11 +186,12 @@ pub record Demand-1 : Type 0 where
   pub recorded : (route : Route) (N H : ℕ) (x out : List ℤ) → RecordedAnswers route N H x out
   pub played : (N H : ℕ) (x out : List ℤ) → PlayedAnswers N H x out
   pub inner : (N H : ℕ) (out : List ℤ) → InnerAnswers N H out
+  pub paged : (N H : ℕ) (x : List ℤ) (out : List ℕ) → PageAnswers N H x out
   pub state-made : (N : ℕ) (state : List ℤ) → StateFreshAnswers N state
   pub state-stepped : (state x out : List ℤ) → StateStepAnswers state x out
   pub listed : (text : List ℕ) → ListingAnswers text
 
--- ================ DEMAND 2: every coefficient and every sample is document 01's, of a recording between the two hops of zeros of document 02, P1
+-- ================ DEMAND 2: every coefficient and every sample is document 01's, of a recording between the two hops of zeros of document 02, P1, and every byte of a page is P2's
 -- y(n) = rnd(W(n) × x(n) / 2^18)
 abbrev pub y : ℕ → List ℤ → ℕ → ℤ
 y N x n = rnd (W N n *ℤ at x n) (2 ^ 18)
@@ -219,12 +232,32 @@ pub record Played-on (N H : ℕ) (x out : List ℤ) (rooms : ℕ → List ℤ) :
   pub taken : (i : ℕ) (t : Turn) → Entry (turns N (offering N x rooms 0 (H + 1))) i t → t .answer .code ≡ 0
   pub hops : playedOut N H x out ≡ drop (N / 2) (outputs (turns N (offering N x rooms 0 (H + 1))))
 
+-- a page that was printed, of coefficients x: it is the page of document 02, P2, whatever the buffer held, with 81 bytes for each line. It has M / 6 lines for each
+-- block, each of 80 columns, none of them a line feed, and a line feed behind. Number i of line j of block b is a well-formed number of at most nine digits, and is
+-- X(6j + i); two blanks stand in front of it. Columns 1 to 8 of a block's first line are its number, those of its other lines are blanks
+pub record Paged-on (N H : ℕ) (x : List ℤ) (page : List ℕ) : Type 0 where
+  pub is : page ≡ pageOf N H x
+  pub long : length page ≡ (H + 1) * (N / 2 / 6) * 81
+  pub byte : (b j i : ℕ) → b ≤ H → j < N / 2 / 6 → i < 81 → getD page ((b * (N / 2 / 6) + j) * 81 + i) 0 ≡ getD (columns b (part N x b) j ++ (lineFeed ∷ [])) i 0
+  pub count : length (lines page) ≡ (H + 1) * (N / 2 / 6)
+  pub ended : remainder page ≡ []
+  pub columns-long : (b j : ℕ) → b ≤ H → j < N / 2 / 6 → length (getD (lines page) (b * (N / 2 / 6) + j) []) ≡ 80
+  pub no-feed : (b j : ℕ) → b ≤ H → j < N / 2 / 6 → indexOf lineFeed (getD (lines page) (b * (N / 2 / 6) + j) []) ≡ 80
+  pub number : (b j i : ℕ) → b ≤ H → j < N / 2 / 6 → i < 6 →
+      T (isNumber 9 (numberText (getD (lines page) (b * (N / 2 / 6) + j) []) i)) × (numberIn (getD (lines page) (b * (N / 2 / 6) + j) []) i ≡ at x (b * (N / 2) + (6 * j + i)))
+  pub apart : (b j i : ℕ) → b ≤ H → j < N / 2 / 6 → i < 6 → take 2 (drop (8 + 12 * i) (getD (lines page) (b * (N / 2 / 6) + j) [])) ≡ replicate 2 blank
+  pub block : (b : ℕ) → b ≤ H → T (isNumber 4 (blockText (getD (lines page) (b * (N / 2 / 6)) []))) × (blockIn (getD (lines page) (b * (N / 2 / 6)) []) ≡ pos b)
+  pub blanks : (b j : ℕ) → b ≤ H → suc j < N / 2 / 6 → take 8 (getD (lines page) (b * (N / 2 / 6) + suc j) []) ≡ replicate 8 blank
+
 pub record Demand-2 : Type 0 where
   pub analysed : (route : Route) (N : ℕ) (x out : List ℤ) → analyseCode route N x out ≡ 0 → length (analyseOut route N x out) ≡ N / 2
   pub coefficient : (N : ℕ) (x out : List ℤ) (k : ℕ) → k < N / 2 → Analysed N x out k
   pub stepped : (s : Stream) (x out : List ℤ) → stepCode s x out ≡ 0 → Stepped-on s x out
   pub recorded : (route : Route) (N H : ℕ) (x out : List ℤ) → recordedCode route N H x out ≡ 0 → Recorded-on route N H x out
   pub played : (N H : ℕ) (x out : List ℤ) → playedCode N H x out ≡ 0 → (rooms : ℕ → List ℤ) → ((b : ℕ) → b ≤ H → length (rooms b) ≡ N / 2) → Played-on N H x out rooms
+  pub paged : (N H : ℕ) (x : List ℤ) (out : List ℕ) → pageCode N H x out ≡ 0 → Paged-on N H x (pageOut N H x out)
+  -- two different sets of coefficients give two different pages
+  pub pages : (N H : ℕ) (x y : List ℤ) (out out′ : List ℕ) → pageCode N H x out ≡ 0 → pageCode N H y out′ ≡ 0 → pageOut N H x out ≡ pageOut N H y out′ → x ≡ y
 
 -- ================ DEMAND 3: sound there and back
 pub record Demand-3 : Type 0 where

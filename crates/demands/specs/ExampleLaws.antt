@@ -1,18 +1,18 @@
 -- The theorems `there-and-back`, `whole-returned`, `back-block-by-block` and `back-by-one-call` applied to Example, so that nobody has to believe that
--- their hypotheses can be met. They are computed from the definitions, the cosine from its series.
+-- their hypotheses can be met; and pages, printed and read back. All is computed from the definitions, the cosine from its series.
 use mathlib.Core.Path.{_≡_, refl, sym, _∙_}
 use mathlib.Core.Bool.{Bool, false, cond}
 use mathlib.Core.List.{List, [], _∷_, _++_}
 use Prim.Native.Nat.{ℕ, suc, _+_, _*_, _/_, _%_, _≤_, _<_}
 use native.Mathlib.Omega.{arith}
 use lib.Dec.{T, eqb, eqb→eq, leb, leb→le, lit<, lit≤}
-use lib.ListN.{length, take, drop, replicate, getD-replicate}
+use lib.ListN.{length, getD, take, drop, replicate, getD-replicate}
 use lib.Seq.{ext-getD, getD-take, getD-drop}
 use lib.IntN.{ℤ, pos, natAbs, _-ℤ_}
 use lib.Signed.{leZ, leZ-yes}
 use Rattle.arithmetic.specs.Rounding.{floor, rnd, clamp, least, largest}
 use Rattle.arithmetic.specs.Sums.{sum}
-use Rattle.arithmetic.specs.Lists.{at, table, all, every}
+use Rattle.arithmetic.specs.Lists.{at, table, joined, all, every}
 use Rattle.arithmetic.specs.TestLaws.{all-at, both-left, both-right}
 use Rattle.cosine.specs.Cosine.{top, bottom, factorial, denominator, term, signed, series, firstQuarter, reduced, toHalf, toTurn, continued, C}
 use Rattle.cosine.specs.Kernels.{lengths, tabled, W, rising, falling, K, L, s, eB, fB, eC, fC, turned}
@@ -23,7 +23,7 @@ use Rattle.stream.specs.Synthesis as Y
 use Rattle.analysis.specs.declared.Route.{Route}
 use Rattle.analysis.specs.declared.Route.the-variants.{Direct}
 use Rattle.analysis.specs.Analysis.{offered, spectrum, coefficients}
-use Rattle.recording.specs.Recordings.{joined, silence, padded, standing, block}
+use Rattle.recording.specs.Recordings.{silence, padded, standing, block, part}
 use Rattle.recording.specs.Recordings.{analysis as recordingOf}
 use Rattle.stream.specs.Steps.{next, hop}
 use Rattle.checks.specs.Causes.{firstCause}
@@ -31,6 +31,11 @@ use Rattle.block_calls.specs.Analysis.{analyseCauses, analyseCode, analyseOut}
 use Rattle.checks.specs.Limits.{counted, within, tailLimit, inRange}
 use Rattle.recording_calls.specs.Recordings.{recordedCauses, recordedCode, recordedOut, playedCauses, playedCode, playedOut}
 use Rattle.stream_calls.specs.Streams.{fresh, soundTail, sound, stepCauses, stepCode, step, stepOut}
+use Rattle.text.specs.Bytes.{ascii, blank}
+use Rattle.text.specs.Number.{digitsBy, decimal, printed}
+use Rattle.text.specs.Lines.{lines}
+use Rattle.text.specs.Columns.{aligned}
+use Rattle.page.specs.Page.{margin, columns, pageOf, pageCauses, pageCode, pageOut, numberIn}
 use Rattle.c_face.specs.Face.{entries, freshCauses, freshCode, freshState}
 use Rattle.demands.specs.Steps.{Offer, Turn, answered, run, taken, offers-of, turns, final, Entry, Recording, Brought, InOrder, unitsOf, change, Returned, WholeReturned, Sharper}
 use Rattle.demands.specs.Steps.Entry.{first, later}
@@ -39,6 +44,7 @@ use Rattle.demands.specs.Recordings.{ByOneCall, BlockByBlock, Back}
 use Rattle.demands.specs.Chains.{calls, held}
 use Rattle.demands.specs.ThereAndBackLaws.{there-and-back, whole-returned, there-and-back-sharper}
 use Rattle.demands.specs.ChainLaws.{fresh-calls, calls-there-and-back, calls-whole}
+use Rattle.demands.specs.DefinitionLaws.{demand-2}
 use Rattle.demands.specs.BackLaws.{back-by-one-call, back-block-by-block}
 use Rattle.demands.specs.Example.{minus, recording, routes, knock, directly, changed, block-0, block-1, block-2, block-3, knock-1, room, small-room, five, loud, low, offer, offers, knock-offers, whole, hops-room, knock-whole}
 
@@ -308,3 +314,37 @@ by-one-call = record {
 
 pub knock-once : Back 12 1 7 (λ b. Direct) knock (playedOut 12 1 knock-whole room)
 knock-once = back-by-one-call 12 1 7 Direct knock knock-whole room (knock-recorded .sample) by-one-call knock-played .0
+
+-- ---- and its coefficients on paper
+pub paper : List ℕ
+paper = replicate 162 0
+
+knock-printed : pageCode 12 1 knock-whole paper ≡ 0
+unfolding answers pageCauses pageCode paper
+knock-printed = refl
+
+pub knock-page : pageOut 12 1 knock-whole paper ≡ ascii "       0     -383686     -357268     -306809     -235988     -148950      -50959\n       1      383737    -1125057     1789771    -2332634     2716663    -2915535\n"
+unfolding answers pageCauses pageCode pageOut pageOf columns margin aligned decimal digitsBy printed part paper
+knock-page = refl
+
+-- at N = 24 a block has two lines: a page of 0, -1, 2, -3, .. is printed, a number of its last line is read back, and columns 1 to 8 of that line are blanks
+pub counted-up : List ℤ
+counted-up = table 24 (λ k. cond (eqb (k % 2) 0) (pos k) (minus k))
+
+pub sheet : List ℕ
+sheet = replicate 324 7
+
+counted-printed : pageCode 24 1 counted-up sheet ≡ 0
+unfolding answers pageCauses pageCode counted-up sheet
+counted-printed = refl
+
+pub counted-read : numberIn (getD (lines (pageOut 24 1 counted-up sheet)) 3 []) 5 ≡ minus 23
+unfolding table counted-up
+counted-read = demand-2 .paged 24 1 counted-up sheet counted-printed .number 1 1 5 (lit≤ tt) (lit< tt) (lit< tt) .1
+
+pub counted-blanks : take 8 (getD (lines (pageOut 24 1 counted-up sheet)) 3 []) ≡ replicate 8 blank
+counted-blanks = demand-2 .paged 24 1 counted-up sheet counted-printed .blanks 1 0 (lit≤ tt) (lit< tt)
+
+-- who prints the same page has the same coefficients
+pub counted-only : (y : List ℤ) (out : List ℕ) → pageCode 24 1 y out ≡ 0 → pageOut 24 1 y out ≡ pageOut 24 1 counted-up sheet → y ≡ counted-up
+counted-only y out e same = demand-2 .pages 24 1 y counted-up out sheet e counted-printed same

@@ -1,8 +1,8 @@
 -- Laws of the blocks of a recording: two that follow each other share a hop, and what is brought for one is near its direct coefficients.
 use mathlib.Core.Path.{_≡_, ap, _∙_}
 use mathlib.Core.List.{List}
-use Prim.Native.Nat.{ℕ, suc, _+_, _*_, _/_, _%_, _≤_, _<_, _^_, max}
-use native.Mathlib.Nat.{div-lt-iff-lt-mul, mod-lt, div-add-mod, mul-comm, le-trans, suc-mul, mul-le-mul-right, le-max-left, le-max-right, max-le}
+use Prim.Native.Nat.{ℕ, suc, _+_, _*_, _/_, _≤_, _<_, _^_, max}
+use native.Mathlib.Nat.{le-trans, suc-mul, mul-le-mul-right, le-max-left, le-max-right, max-le}
 use native.Mathlib.Omega.{arith}
 use lib.Dec.{T}
 use lib.IntN.{ℤ, pos, natAbs, _-ℤ_, _+ℤ_}
@@ -10,6 +10,7 @@ use lib.Signed.{leZ-yes}
 use Rattle.arithmetic.specs.Lists.{at}
 use Rattle.arithmetic.specs.Rounding.{rnd, clamp, Sample}
 use Rattle.arithmetic.specs.ListLaws.{getD-table}
+use Rattle.arithmetic.specs.JoinLaws.{Place, place-of}
 use Rattle.arithmetic.specs.OrderLaws.{abs-via}
 use Rattle.arithmetic.specs.RoundingLaws.{sample-abs}
 use Rattle.cosine.specs.Kernels.{tabled, rising, falling}
@@ -62,15 +63,8 @@ abbrev pub windowed : ℕ → List ℤ → ℕ → ℤ
 windowed N x = y N (rising N) (falling N) x
 
 -- ---- sample i of a recording of H hops: its hop, and its place there
-pub record Hop (N H i : ℕ) : Type 0 where
-  pub within : i / (N / 2) < H
-  pub less : i % (N / 2) < N / 2
-  pub place : i / (N / 2) * (N / 2) + i % (N / 2) ≡ i
-
-pub hop-of : (N : ℕ) → T (tabled N) → (H i : ℕ) → i < H * (N / 2) → Hop N H i
-hop-of N t H i p =
-    let some : 0 < N / 2 = omega (arith, length-of N t .twelve, length-of N t .some) in
-    record { within = div-lt-iff-lt-mul {x = i} {y = H} some .1 p; less = mod-lt i some; place = omega (arith, div-add-mod i (N / 2), mul-comm (i / (N / 2)) (N / 2)) }
+pub hop-of : (N : ℕ) → T (tabled N) → (H i : ℕ) → i < H * (N / 2) → Place (N / 2) H i
+hop-of N t H i p = place-of (N / 2) H i (omega (arith, length-of N t .twelve, length-of N t .some)) p
 
 -- ---- the coefficients by a route, against the direct ones
 module _ (N : ℕ) (x : List ℤ) (k : ℕ) (p : k < N / 2) where

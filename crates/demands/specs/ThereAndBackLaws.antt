@@ -168,12 +168,12 @@ whole-returned N t H Q routes x rec offers order =
     record {
       near = λ all i p.
           let l = hop-of N t H i p in
-          let (u, e) = entry-at (taken (turns N offers)) (suc (i / (N / 2))) (omega (arith, all, l .within)) in
-          (u, e, rw (ap (at x) (l .place)) at (back .hop-near (i / (N / 2)) u e (i % (N / 2)) (l .less)));
+          let (u, e) = entry-at (taken (turns N offers)) (suc (i / (N / 2))) (omega (arith, all, l .before)) in
+          (u, e, rw (ap (at x) (l .is)) at (back .hop-near (i / (N / 2)) u e (i % (N / 2)) (l .less)));
       same = λ all q i p d d′.
           let l = hop-of N t H i p in
-          let (u, e) = entry-at (taken (turns N offers)) (suc (i / (N / 2))) (omega (arith, all, l .within)) in
-          (u, e, back .hop-same (i / (N / 2)) u e q d d′ (i % (N / 2)) (l .less) ∙ ap (at x) (l .place));
+          let (u, e) = entry-at (taken (turns N offers)) (suc (i / (N / 2))) (omega (arith, all, l .before)) in
+          (u, e, back .hop-same (i / (N / 2)) u e q d d′ (i % (N / 2)) (l .less) ∙ ap (at x) (l .is));
     }
 
 -- and what is proved of it beyond that

@@ -1,4 +1,4 @@
-// The public calls, by family: one block, streams, whole recordings. What each promises stands with it.
+// The public calls of the bank, by family: one block, streams, whole recordings. What each promises stands with it.
 pub use analysis::Route;
 pub use block_calls::analyse;
 pub use recording_calls::analyse_recording;

@@ -1,4 +1,3 @@
 pub mod Recordings
 pub mod BlockLaws
-pub mod JoinLaws
 pub mod RecordingLaws

@@ -7,7 +7,7 @@ use native.Mathlib.Omega.{arith}
 use lib.Dec.{T}
 use lib.ListN.{length, take, drop}
 use lib.IntN.{ℤ}
-use Rattle.arithmetic.specs.Lists.{Small}
+use Rattle.arithmetic.specs.Lists.{Small, joined}
 use Rattle.arithmetic.specs.ListLaws.{part-length, part-small}
 use Rattle.cosine.specs.Kernels.{tabled}
 use Rattle.cosine.specs.LengthLaws.{length-of}
@@ -16,9 +16,9 @@ use Rattle.stream.specs.NextLaws as S
 use Rattle.stream.specs.NextLaws.{Fine}
 use Rattle.analysis.specs.declared.Route.{Route}
 use Rattle.analysis.specs.Analysis.{coefficients}
-use Rattle.recording.specs.Recordings.{joined, standing, block, analysis, part}
+use Rattle.recording.specs.Recordings.{standing, block, analysis, part}
 use Rattle.recording.specs.BlockLaws.{edge, block-first, block-inside, block-last}
-use Rattle.recording.specs.JoinLaws.{joined-front, joined-same, within}
+use Rattle.arithmetic.specs.JoinLaws.{joined-front, joined-same, within}
 
 -- ---- where block b lies
 pub record Lies (N B samples places b : ℕ) : Type 0 where

@@ -1,16 +1,12 @@
 -- Whole recordings: definitions. Document 01, 'Whole recordings', and document 02, P1. A recording of H hops has H + 1 blocks.
-use mathlib.Core.List.{List, [], _++_}
-use Prim.Native.Nat.{ℕ, zero, suc, _+_, _*_, _/_}
+use mathlib.Core.List.{List, _++_}
+use Prim.Native.Nat.{ℕ, suc, _+_, _*_, _/_}
 use lib.ListN.{take, drop, replicate}
 use lib.IntN.{ℤ, pos}
+use Rattle.arithmetic.specs.Lists.{joined}
 use Rattle.stream.specs.Steps.{returned}
 use Rattle.analysis.specs.declared.Route.{Route}
 use Rattle.analysis.specs.Analysis.{coefficients}
-
--- g(0) .. g(k-1), one after the other
-unfoldable pub joined : ℕ → (ℕ → List ℤ) → List ℤ
-joined zero g = []
-joined (suc k) g = joined k g ++ g k
 
 -- a hop of zeros
 unfoldable pub silence : ℕ → List ℤ

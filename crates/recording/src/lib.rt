@@ -6,10 +6,10 @@ ghost use Prim.Native.Nat.{_+_, _*_, _/_, _^_, _≤_};
 ghost use lib.Dec.{T};
 ghost use lib.ListN.{length, replicate};
 ghost use lib.IntN.{pos};
-ghost use Rattle.arithmetic.specs.Lists.{Small};
+ghost use Rattle.arithmetic.specs.Lists.{Small, joined};
 ghost use Rattle.cosine.specs.Kernels.{tabled};
 ghost use Rattle.analysis.specs.Analysis.{offered, coefficients};
-ghost use Rattle.recording.specs.Recordings.{joined, standing, analysis, synthesis};
+ghost use Rattle.recording.specs.Recordings.{standing, analysis, synthesis};
 ghost use Rattle.recording.specs.BlockLaws.{edge};
 use analysis::Route;
 

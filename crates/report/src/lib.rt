@@ -63,6 +63,22 @@ fn sum_samples(x: &[i16]) -> u64 {
     h
 }
 
+// A sum that each byte and its place change.
+fn mixed(h: u64, b: u8) -> u64
+    requires { ⌜ h < 2 ^ 32 ⌝ }
+    ensures { λ r. ⌜ r < 2 ^ 32 ⌝ }
+{
+    (h * 31 + b as u64) % 4294967291
+}
+
+pub fn sum_bytes(s: &[u8]) -> u64 {
+    let mut h: u64 = 0;
+    for i in 0..s.len() {
+        h = mixed(h, s[i]);
+    }
+    h
+}
+
 fn list_coefficients(c: &[i32]) {
     for k in 0..c.len() {
         field(c[k] as i64);

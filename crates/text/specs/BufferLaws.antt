@@ -20,7 +20,7 @@ stored-append out place [] ys = rw add-zero
 stored-append out place (x ∷ xs) ys = rw (add-suc, ← suc-add) (stored-append (set out place x) (suc place) xs ys)
 
 -- with room for it, in three parts: what was in front, the text, and what was behind
-stored-is : (out : List ℕ) (place : ℕ) (text : List ℕ) → place + length text ≤ length out → stored out place text ≡ take place out ++ text ++ drop (place + length text) out
+pub stored-is : (out : List ℕ) (place : ℕ) (text : List ℕ) → place + length text ≤ length out → stored out place text ≡ take place out ++ text ++ drop (place + length text) out
 unfolding stored
 stored-is out place text h = same out place text ∙ sets-eq text out place h
   where

@@ -8,6 +8,9 @@ use Prim.Native.String.{String, [], _∷_}
 abbrev pub lineFeed : ℕ
 lineFeed = 10
 
+abbrev pub blank : ℕ
+blank = 32
+
 abbrev pub comma : ℕ
 comma = 44
 

@@ -1,8 +1,10 @@
 pub mod Bytes
 pub mod Number
 pub mod Lines
+pub mod Columns
 pub mod Buffers
 pub mod NumberLaws
 pub mod LineLaws
 pub mod ScanLaws
 pub mod BufferLaws
+pub mod ColumnLaws

@@ -1,14 +1,13 @@
 -- Laws of lines and fields: where each stands in the text, fields to be printed, and how many bytes they take.
 -- The first part of a text ends at the first byte p, or is the whole of it.
 use mathlib.Core.Path.{_≡_, refl, sym, ap, _∙_}
-use Rattle.arithmetic.specs.Lists.{every}
-use mathlib.Core.Bool.{not, Bool, true, false, cond}
+use mathlib.Core.Bool.{Bool, true, false, cond}
 use mathlib.Core.List.{List, [], _∷_, _++_, append-assoc, append-nil}
 use Prim.Native.Nat.{ℕ, zero, suc, _+_, _-_, _*_, _≤_, _<_}
 use mathlib.Core.Logic.{dite}
 use native.Mathlib.Decide.{decLt}
 use native.Mathlib.Omega.{arith}
-use lib.Dec.{T, eqb}
+use lib.Dec.{eqb}
 use borrow.Author.Tests.{eqb-true}
 use lib.ListN.{length, getD, take, drop, length-drop}
 use lib.Seq.{take-all, drop-cons, drop-drop}
@@ -104,7 +103,7 @@ module _ (p : ℕ) (s : List ℕ) (i e : ℕ) (within : i ≤ length s) (is : e 
   part-first = dite (decLt e (length s)) (λ h. (split p (drop (e + 1) s), part-found h)) (λ h. ([], part-last (omega (arith, end-most))))
 
 -- ---- lines
-ended-more : (f : List ℕ) (fs : List (List ℕ)) → 1 ≤ length fs → (ended (f ∷ fs) ≡ f ∷ ended fs) × (unended (f ∷ fs) ≡ unended fs)
+pub ended-more : (f : List ℕ) (fs : List (List ℕ)) → 1 ≤ length fs → (ended (f ∷ fs) ≡ f ∷ ended fs) × (unended (f ∷ fs) ≡ unended fs)
 unfolding ended unended
 ended-more f [] h = absurd (omega arith)
 ended-more f (g ∷ fs) h = (refl, refl)

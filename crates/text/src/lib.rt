@@ -1,5 +1,6 @@
-// Text as bytes: numbers, lines, fields, and printing them into a buffer.
-// No function here is a public call: `listing` calls them, each under its requires.
+// Text as bytes: numbers, lines, fields, columns, and printing them into a buffer.
+// No function here is a public call: `listing` and `page` call them, each under its requires.
+pub mod columns;
 pub mod line;
 pub mod number;
 pub mod print;

@@ -16,8 +16,8 @@ word-requires c κs = search needs
 count-requires : tie.Need-count-requires
 count-requires c κs = search needs
 
-sum-requires : tie.Need-sum-requires
-sum-requires c κs = search needs
+sum-bytes-requires : tie.Need-sum-bytes-requires
+sum-bytes-requires c κs = search needs
 
 count-requires-2 : tie.Need-count-requires-2
 count-requires-2 c κs = search needs
@@ -28,11 +28,11 @@ count-requires-3 c κs = search needs
 array-share-prefix-out : tie.Need-array-share-prefix-out
 array-share-prefix-out c = let r = c .before .before .before .before .before .before in written-fits _ _ (r .round-trip .last .1 .0) (r .round-trip .result) (r .round-trip .ensures)
 
-slice-aggregate-sum : tie.Need-slice-aggregate-sum
-slice-aggregate-sum c = let r = c .before .before .before .before .before .before .before in written-part _ _ (r .round-trip .last .1 .0) (r .round-trip .result) (r .round-trip .ensures)
+slice-aggregate-sum-bytes : tie.Need-slice-aggregate-sum-bytes
+slice-aggregate-sum-bytes c = let r = c .before .before .before .before .before .before .before in written-part _ _ (r .round-trip .last .1 .0) (r .round-trip .result) (r .round-trip .ensures)
 
-sum-requires-2 : tie.Need-sum-requires-2
-sum-requires-2 c κs = search needs
+sum-bytes-requires-2 : tie.Need-sum-bytes-requires-2
+sum-bytes-requires-2 c κs = search needs
 
 count-requires-4 : tie.Need-count-requires-4
 count-requires-4 c κs = search needs
@@ -51,12 +51,12 @@ tell-spec =
     slice-aggregate-word
     word-requires
     count-requires
-    sum-requires
+    sum-bytes-requires
     count-requires-2
     count-requires-3
     array-share-prefix-out
-    slice-aggregate-sum
-    sum-requires-2
+    slice-aggregate-sum-bytes
+    sum-bytes-requires-2
     count-requires-4
     end-requires
     returns)

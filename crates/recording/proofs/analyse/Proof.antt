@@ -6,14 +6,15 @@ use native.Mathlib.Nat.{mul-le-mul-right, add-mul, one-mul}
 use native.Mathlib.Omega.{arith}
 use borrow.Author.Needs.{needs}
 use lib.ListN.{length, take, drop, length-append, length-drop}
-use lib.Seq.{length-take-le, take-all, drop-at}
+use lib.Seq.{length-take-le, take-all}
 use lib.IntN.{ℤ}
 use Rattle.cosine.specs.LengthLaws.{length-of}
 use Rattle.analysis.specs.Analysis.{coefficients}
 use Rattle.analysis.specs.AnalysisLaws.{offered-tabled, coefficients-length}
-use Rattle.recording.specs.Recordings.{joined, standing, analysis}
+use Rattle.recording.specs.Recordings.{standing, analysis}
 use Rattle.recording.specs.BlockLaws.{edge}
-use Rattle.recording.specs.JoinLaws.{joined-length, two-long, three-parts}
+use Rattle.arithmetic.specs.Lists.{joined}
+use Rattle.arithmetic.specs.JoinLaws.{joined-length, two-long, three-parts}
 use Rattle.recording.specs.RecordingLaws.{analysis-made}
 use Rattle.recording.proofs.analyse.Statement.{statement}
 use Rattle.recording.proofs.analyse.Tie as tie
@@ -78,7 +79,7 @@ module _ (s : tie.Start) where
       B-long : M + length B ≡ H * M
       B-long =
           let l = ap length isB ∙ joined-length (λ b. coefficients (s .args .route) (s .args .n) (standing (s .args .n) x b)) M
-          (λ b. coefficients-length (s .args .route) (s .args .n) (standing (s .args .n) x b)) (H - 1) in
+          (H - 1) (λ b p. coefficients-length (s .args .route) (s .args .n) (standing (s .args .n) x b)) (H - 1) (omega arith) in
           omega (arith, l, fewer)
 
       abbrev written : List ℤ

@@ -8,8 +8,9 @@ use lib.IntN.{ℤ}
 use Rattle.arithmetic.specs.ListLaws.{part-length}
 use Rattle.analysis.specs.declared.Route.{Route}
 use Rattle.analysis.specs.Analysis.{coefficients}
-use Rattle.recording.specs.Recordings.{joined, standing}
-use Rattle.recording.specs.JoinLaws.{Joined, joined-none, joined-more, joined-all}
+use Rattle.recording.specs.Recordings.{standing}
+use Rattle.arithmetic.specs.Lists.{joined}
+use Rattle.arithmetic.specs.JoinLaws.{Joined, joined-none, joined-more, joined-all}
 use Rattle.analysis.specs.AnalysisLaws.{offered-tabled, coefficients-length}
 use Rattle.recording.specs.RecordingLaws.{Lies, lies, standing-is}
 use Rattle.recording.proofs.standing_blocks.Statement.{statement}
@@ -95,7 +96,7 @@ loop-again c =
     let e : at + a .n - at ≡ a .n = omega arith in
     let f : at + a .n / 2 - at ≡ a .n / 2 = omega arith in (
       omega arith,
-      joined-more (given (a .route) (a .n) (a .x .now)) (a .n / 2) (λ j. coefficients-length (a .route) (a .n) (standing (a .n) (a .x .now) j)) b (at + a .n / 2 - at) (l .loop .out) (a .out .now)
+      joined-more (given (a .route) (a .n) (a .x .now)) (a .n / 2) (a .blocks) (λ j p. coefficients-length (a .route) (a .n) (standing (a .n) (a .x .now) j)) b (at + a .n / 2 - at) (omega arith) (l .loop .out) (a .out .now)
           (c .before .analyse-block .last .1 .1 .1 .0) (l .loop .inv .1) (placed (c .before .before .before .before) .ends) f
           (c .before .analyse-block .ensures ∙ ap (coefficients (a .route) (a .n)) (standing-is (a .n) b (a .x .now) e)),
     )
@@ -108,7 +109,7 @@ returns c =
     let a = c .before .before .args in
     let g = given (a .route) (a .n) (a .x .now) in
     let e : c .before .loop .b ≡ a .blocks = omega arith in
-    joined-all g (a .n / 2) (λ j. coefficients-length (a .route) (a .n) (standing (a .n) (a .x .now) j)) (c .before .loop .b) (c .before .loop .out) (a .out .now) (c .before .loop .inv .1)
+    joined-all g (a .n / 2) (c .before .loop .b) (c .before .loop .out) (a .out .now) (c .before .loop .inv .1)
     (c .before .before .pre .3 ∙ ap (λ (j : ℕ). j * (a .n / 2)) (sym e))
     ∙ ap (λ (j : ℕ). joined j g) e
 

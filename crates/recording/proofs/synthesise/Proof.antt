@@ -3,23 +3,22 @@
 use mathlib.Core.Path.{_≡_, refl, sym, ap, ap₂, _∙_}
 use mathlib.Core.List.{List, _++_}
 use Prim.Native.Nat.{ℕ, suc, _+_, _-_, _*_, _/_, _^_, _≤_, _<_}
-use native.Mathlib.Nat.{mul-le-mul-right, add-mul, one-mul}
+use native.Mathlib.Nat.{mul-le-mul-right, one-mul}
 use native.Mathlib.Numerals.{add-one}
 use native.Mathlib.Omega.{arith}
-use lib.Dec.{T}
 use lib.ListN.{length, take, drop, length-append, length-drop}
 use lib.Seq.{length-take-le}
 use lib.IntN.{ℤ}
-use Rattle.arithmetic.specs.Lists.{Small}
-use Rattle.arithmetic.specs.ListLaws.{part-length, part-small}
-use Rattle.cosine.specs.Kernels.{tabled, rising, falling}
+use Rattle.arithmetic.specs.Lists.{Small, joined}
+use Rattle.arithmetic.specs.ListLaws.{part-length}
+use Rattle.cosine.specs.Kernels.{rising, falling}
 use Rattle.stream.specs.Synthesis.{fresh, newTail}
 use Rattle.stream.specs.Synthesis as S
 use Rattle.stream.specs.StepLaws.{Bounded}
 use Rattle.stream.specs.Steps.{next, hop, streamAfter, returned}
 use Rattle.stream.specs.NextLaws.{Fine, returned-long}
-use Rattle.recording.specs.Recordings.{joined, part, synthesis}
-use Rattle.recording.specs.JoinLaws.{Joined, joined-none, joined-more, joined-all}
+use Rattle.recording.specs.Recordings.{part, synthesis}
+use Rattle.arithmetic.specs.JoinLaws.{Joined, joined-none, joined-more, joined-all}
 use Rattle.recording.specs.RecordingLaws.{Lies, lies, part-first, part-next, part-length-is, part-range, stream-fine}
 use Rattle.recording.proofs.synthesise.Statement.{statement}
 use Rattle.recording.proofs.synthesise.Tie as tie
@@ -219,7 +218,7 @@ loop-again c =
           (y .ensures .0
           ∙ ap₂ (newTail (n s) (rising (n s)) (falling (n s))) t k
           ∙ ap (λ (N : ℕ). newTail N (rising N) (falling N) (b .tail) (part (n s) (x s) (suc h))) e),
-      joined-more (given (n s) (x s)) (M s) (λ j. returned-long (n s) (part (n s) (x s)) (suc j)) h (at + M s - at) (i .before .loop .out) _ (y .last .1 .1 .1 .0) (i .before .loop .inv .2)
+      joined-more (given (n s) (x s)) (M s) (H s) (λ j p. returned-long (n s) (part (n s) (x s)) (suc j)) h (at + M s - at) less (i .before .loop .out) _ (y .last .1 .1 .1 .0) (i .before .loop .inv .2)
           (omega (arith, lies-here i .ends, s .pre .1 .1, i .before .loop .inv .3)) f
           (y .ensures .1
           ∙ ap₂ (S.hop (n s) (rising (n s)) (falling (n s))) t k
@@ -236,7 +235,7 @@ returns c =
     let s = c .before .before .before .before .before .before .before .before in
     let g = given (n s) (x s) in
     let e : c .before .loop .h ≡ H s = omega arith in
-    joined-all g (M s) (λ j. returned-long (n s) (part (n s) (x s)) (suc j)) (c .before .loop .h) (c .before .loop .out) _ (c .before .loop .inv .2)
+    joined-all g (M s) (c .before .loop .h) (c .before .loop .out) _ (c .before .loop .inv .2)
     (c .before .loop .inv .3 ∙ ap (λ (j : ℕ). j * M s) (sym e))
     ∙ ap (λ (j : ℕ). joined j g) e
 

@@ -1,8 +1,8 @@
--- `sum` is safe and ends: the sum stays below 2^32.
+-- `sum_bytes` is safe and ends: the sum stays below 2^32.
 use Prim.Native.Nat.{_-_, _^_, _≤_, _<_}
 use borrow.Author.Needs.{needs}
-use Rattle.check_listing.proofs.sum.Statement.{statement}
-use Rattle.check_listing.proofs.sum.Tie as tie
+use Rattle.report.proofs.sum_bytes.Statement.{statement}
+use Rattle.report.proofs.sum_bytes.Tie as tie
 
 abbrev Inv-loop : tie.InvT-loop
 Inv-loop s h₀ i₀ i-end h i = (i ≤ i-end) × (h < 2 ^ 32)
@@ -31,8 +31,8 @@ loop-again c = search needs
 returns : tie.Need-returns Inv-loop μ-loop
 returns c = search needs
 
-pub sum-spec : {M : Type 1} → statement M
-sum-spec =
+pub sum-bytes-spec : {M : Type 1} → statement M
+sum-bytes-spec =
     tie.close
     (tie.spec
     Inv-loop
