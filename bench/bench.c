@@ -1,7 +1,7 @@
 /* Times the library beside plain C of the same definitions, in one run: each round gives every contender one short batch, and the least time of
  * a batch counts. Prints Markdown. With the word 'count' it runs one batch of each for callgrind, which counts instructions. */
 #define _POSIX_C_SOURCE 200809L
-#include "../include/dapplescree.h"
+#include "library.h"
 #include "plain.h"
 #include <math.h>
 #include <stdio.h>
@@ -34,47 +34,36 @@ static int16_t all_padded[LENGTHS][(LONGEST + 2) * 36], *padded;
 static int32_t all_spectra[LENGTHS][(LONGEST + 1) * 36], *spectra;
 static int32_t coefficients[(LONGEST + 1) * 36];
 static int16_t sound[(LONGEST + 1) * 36];
-static int64_t state[DAPPLESCREE_STATE];
 static int64_t tail[36];
 
 static uint32_t refused;
 
-static void library_direct(size_t n, size_t blocks)
-{
-    for (size_t b = 0; b < blocks; b++)
-        refused |= dapplescree_analyse_direct(n, padded + b * (n / 2), n, coefficients + b * (n / 2), n / 2);
-}
+#define ANALYSIS(whose, call)                                                 \
+    static void whose##_##call(size_t n, size_t blocks)                       \
+    {                                                                         \
+        refused |= whose.call(n, blocks, padded, coefficients);               \
+    }
 
-static void library_short(size_t n, size_t blocks)
-{
-    for (size_t b = 0; b < blocks; b++)
-        refused |= dapplescree_analyse_short(n, padded + b * (n / 2), n, coefficients + b * (n / 2), n / 2);
-}
+#define SYNTHESIS(whose, call)                                                \
+    static void whose##_##call(size_t n, size_t blocks)                       \
+    {                                                                         \
+        refused |= whose.call(n, blocks, spectra, sound);                     \
+    }
 
-static void library_recording_direct(size_t n, size_t blocks)
-{
-    size_t m = n / 2, hops = blocks - 1;
-    refused |= dapplescree_analyse_recording_direct(n, hops, padded + m, hops * m, coefficients, blocks * m);
-}
+#define CALLS(whose)                                                          \
+    ANALYSIS(whose, direct)                                                   \
+    ANALYSIS(whose, by_short_route)                                           \
+    ANALYSIS(whose, recording_direct)                                         \
+    ANALYSIS(whose, recording_short)                                          \
+    SYNTHESIS(whose, step)                                                    \
+    SYNTHESIS(whose, synthesis)
 
-static void library_recording_short(size_t n, size_t blocks)
-{
-    size_t m = n / 2, hops = blocks - 1;
-    refused |= dapplescree_analyse_recording_short(n, hops, padded + m, hops * m, coefficients, blocks * m);
-}
-
-static void library_step(size_t n, size_t blocks)
-{
-    refused |= dapplescree_stream_fresh(n, state, DAPPLESCREE_STATE);
-    for (size_t b = 0; b < blocks; b++)
-        refused |= dapplescree_stream_step(state, DAPPLESCREE_STATE, spectra + b * (n / 2), n / 2, sound + b * (n / 2), n / 2);
-}
-
-static void library_synthesis(size_t n, size_t blocks)
-{
-    size_t m = n / 2, hops = blocks - 1;
-    refused |= dapplescree_synthesise_recording(n, hops, spectra, blocks * m, sound + m, hops * m);
-}
+CALLS(library)
+#ifdef BEFORE
+/* the same calls of an earlier commit */
+extern const struct library before;
+CALLS(before)
+#endif
 
 #define PLAIN_ANALYSIS(call)                                                  \
     static void run_##call(size_t n, size_t blocks)                           \
@@ -222,10 +211,18 @@ struct contender {
 };
 
 static struct contender contenders[] = {
-    {"library, direct", library_direct, COEFFICIENTS, 0, {0}},
-    {"library, short route", library_short, NEAR_COEFFICIENTS, 0, {0}},
-    {"library, recording, direct", library_recording_direct, COEFFICIENTS, 0, {0}},
-    {"library, recording, short route", library_recording_short, NEAR_COEFFICIENTS, 0, {0}},
+#define ANALYSES(name, whose)                                                 \
+    {name ", direct", whose##_direct, COEFFICIENTS, 0, {0}},                  \
+    {name ", short route", whose##_by_short_route, NEAR_COEFFICIENTS, 0, {0}}, \
+    {name ", recording, direct", whose##_recording_direct, COEFFICIENTS, 0, {0}}, \
+    {name ", recording, short route", whose##_recording_short, NEAR_COEFFICIENTS, 0, {0}}
+#define SYNTHESES(name, whose)                                                \
+    {name ", step", whose##_step, SOUND, 0, {0}},                             \
+    {name ", recording, synthesis", whose##_synthesis, SOUND, 0, {0}}
+    ANALYSES("library", library),
+#ifdef BEFORE
+    ANALYSES("before", before),
+#endif
     {"plain C, direct, -O3", run_plain_o3_analyse_direct, COEFFICIENTS, 0, {0}},
     {"plain C, folded, -O3", run_plain_o3_analyse_folded, COEFFICIENTS, 0, {0}},
     {"plain C, direct, -O3 -march=native", run_plain_native_analyse_direct, COEFFICIENTS, 1, {0}},
@@ -236,8 +233,10 @@ static struct contender contenders[] = {
 #ifdef HAVE_AVTX
     {"FFmpeg av_tx MDCT (float)", avtx_analysis, FLOAT_COEFFICIENTS, 0, {0}},
 #endif
-    {"library, step", library_step, SOUND, 0, {0}},
-    {"library, recording, synthesis", library_synthesis, SOUND, 0, {0}},
+    SYNTHESES("library", library),
+#ifdef BEFORE
+    SYNTHESES("before", before),
+#endif
     {"plain C, step, direct, -O3", run_plain_o3_step_direct, SOUND, 0, {0}},
     {"plain C, step, folded, -O3", run_plain_o3_step_folded, SOUND, 0, {0}},
     {"plain C, step, direct, -O3 -march=native", run_plain_native_step_direct, SOUND, 1, {0}},
@@ -375,6 +374,14 @@ static void time_all(int rounds)
         printf("\n");
     }
     printf("\n| ratio | N = 12 | N = 24 | N = 36 | N = 72 |\n|---|---:|---:|---:|---:|\n");
+#ifdef BEFORE
+    print_ratio("library, direct", "before, direct");
+    print_ratio("library, short route", "before, short route");
+    print_ratio("library, recording, direct", "before, recording, direct");
+    print_ratio("library, recording, short route", "before, recording, short route");
+    print_ratio("library, step", "before, step");
+    print_ratio("library, recording, synthesis", "before, recording, synthesis");
+#endif
     print_ratio("library, direct", "plain C, folded, -O3");
     print_ratio("library, direct", "plain C, folded, -O3 -march=native");
     print_ratio("library, direct", "plain C, direct, -O3");
@@ -400,9 +407,9 @@ static void time_all(int rounds)
 static void time_recordings(int rounds)
 {
     static const size_t hops[] = {1, 4, 16, 64, 256, 1024, LONGEST};
-    enum { SIZES = sizeof hops / sizeof hops[0], CALLS = 3 };
-    void (*const calls[CALLS])(size_t, size_t) = {library_recording_direct, library_recording_short, library_synthesis};
-    const char *const names[CALLS] = {"direct", "short route", "synthesis"};
+    enum { SIZES = sizeof hops / sizeof hops[0], KINDS = 3 };
+    void (*const calls[KINDS])(size_t, size_t) = {library_recording_direct, library_recording_short, library_synthesis};
+    const char *const names[KINDS] = {"direct", "short route", "synthesis"};
     printf("\n| a recording, ns per block |");
     for (int s = 0; s < SIZES; s++)
         printf(" H = %zu |", hops[s]);
@@ -412,10 +419,10 @@ static void time_recordings(int rounds)
     printf("\n");
     for (int l = 0; l < LENGTHS; l++) {
         size_t n = lengths[l];
-        double least[CALLS][SIZES];
+        double least[KINDS][SIZES];
         turn_to(l);
         for (int r = 0; r < rounds; r++)
-            for (int c = 0; c < CALLS; c++)
+            for (int c = 0; c < KINDS; c++)
                 for (int s = 0; s < SIZES; s++) {
                     /* short recordings are repeated, so that the clock's own cost is small */
                     size_t blocks = hops[s] + 1, repeats = blocks < 512 ? 512 / blocks : 1;
@@ -426,7 +433,7 @@ static void time_recordings(int rounds)
                     if (r == 0 || spent < least[c][s])
                         least[c][s] = spent;
                 }
-        for (int c = 0; c < CALLS; c++) {
+        for (int c = 0; c < KINDS; c++) {
             printf("| N = %zu, %s |", n, names[c]);
             for (int s = 0; s < SIZES; s++)
                 printf(" %.0f |", least[c][s]);

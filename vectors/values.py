@@ -1,15 +1,15 @@
 """Writes what crates/check_values must print: python3 vectors/values.py > crates/check_values/stdout"""
 from bank import LENGTHS, C, K, L, W, clamp, rnd
 
-# sums around zero, halves of either sign of every divisor, one beside them, and the ends of the type
+# sums around zero, halves of either sign of every divisor, one beside them, and the ends of a sum
 SUMS = [0, 1, -1]
 for k in (18, 26, 28, 29):
     h = 2 ** (k - 1)
     SUMS += [h - 1, h, h + 1, -h - 1, -h, -h + 1, 3 * h, -3 * h]
 for N in LENGTHS:
     h = N * 2**29
-    SUMS += [h - 1, h, h + 1, -h - 1, -h, -h + 1]
-SUMS += [32767, 32768, -32768, -32769, 1234567890123456789, -1234567890123456789, 2**63 - 1, -(2**63) + 1, -(2**63)]
+    SUMS += [h - 1, h, h + 1, -h - 1, -h, -h + 1, N * 2**55, -N * 2**55]
+SUMS += [32767, 32768, -32768, -32769, 1234567890123456789, -1234567890123456789]
 SUMS = list(dict.fromkeys(SUMS))
 
 
@@ -23,12 +23,12 @@ for k in (18, 26, 28, 29):
         if abs(a) <= 2**62:
             line("shift", k, a, rnd(a, 2**k))
 for i, a in enumerate(SUMS):
-    if abs(a) < 2**33:
+    if abs(a) <= 2**25:
         line("clamp", i, a, clamp(a))
 for t in range(600):
     line("C", t, C(t))
 for N in LENGTHS:
-    for a in SUMS:
+    for a in [a for a in SUMS if abs(a) <= N * 2**55]:
         line("scale", N, a, clamp(rnd(a, N * 2**30)))
     line("W", *[W(N, n) for n in range(N)])
     for n in range(N):

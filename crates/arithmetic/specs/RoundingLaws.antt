@@ -1,12 +1,14 @@
 -- Laws of floor, rnd and clamp. Nothing above this crate opens their text.
-use mathlib.Core.Path.{_≡_, refl}
+use mathlib.Core.Path.{_≡_, refl, _∙_}
 use mathlib.Core.Bool.{Bool, true, false}
 use mathlib.Core.Logic.{⊎-elim}
-use Prim.Native.Nat.{ℕ, _+_, _*_, _/_, _≤_, _<_}
-use native.Mathlib.Nat.{div-le-self, div-add-mod, mod-lt, mul-le-mul-left, mul-pos, mul-le-mul-right, mul-div-le}
+use Prim.Native.Nat.{ℕ, _+_, _*_, _/_, _^_, _≤_, _<_}
+use native.Mathlib.Nat.{div-le-self, div-add-mod, mod-lt, mul-le-mul-left, mul-pos}
 use native.Mathlib.Omega.{arith, by-contra}
 use lib.IntN.{ℤ, pos, negsuc, natAbs, _+ℤ_, _-ℤ_, _*ℤ_}
 use lib.Signed.{_≤ℤ_, _<ℤ_, shrZ, ltZ, ≤ℤ-refl}
+use mir.Syntax.{w32, w64}
+use mir.Val.{SFits}
 use Rattle.arithmetic.specs.Rounding.{floor, rnd, clamp, least, largest, Sample}
 use Rattle.arithmetic.specs.IntegerLaws.{ints, posints, zarith}
 use Rattle.arithmetic.specs.OrderLaws.{bounds, mul-le, <ℤ-≤ℤ, ≤ℤ-antisym, abs-mul, abs-is, ltZ-true, ltZ-false}
@@ -50,11 +52,10 @@ unfolding floor
 floor-abs (pos a) b = div-le-self a b
 floor-abs (negsuc a) b = omega (arith, div-le-self a b)
 
--- a floor by 2 or more halves the range
-pub floor-half : (a : ℤ) {b n : ℕ} → 2 ≤ b → natAbs a ≤ 2 * n → natAbs (floor a b) ≤ n
-unfolding floor
-floor-half (pos a) {b} {n} p h = omega (arith, mul-div-le a b, mul-le-mul-right (a / b) p)
-floor-half (negsuc a) {b} {n} p h = omega (arith, mul-div-le a b, mul-le-mul-right (a / b) p)
+-- of a number of 64 bits a shift by 32 leaves 32
+pub shr-upper : (a : ℤ) → SFits w64 a → SFits w32 (shrZ a (2 ^ 32))
+shr-upper (pos n) f = record { sfits = omega (arith, f .sfits) }
+shr-upper (negsuc n) f = record { sfits = omega (arith, f .sfits) }
 
 -- a floor of a floor is one floor, and a multiple of b comes out of it: (floor(a/b) + c) / m is (a + b c) / (b m), rounded down
 pub floor-floor : (a c : ℤ) {b m : ℕ} → 0 < b → 0 < m → 0 < b * m → floor (floor a b +ℤ c) m ≡ floor (a +ℤ pos b *ℤ c) (b * m)
@@ -89,6 +90,14 @@ unfolding rnd
 rnd-half a h {b} e =
     let f : b / 2 ≡ h = omega (arith, e) in
     rw f
+
+-- rounding by b m: the half is added first, and then a floor taken by each
+pub rnd-parts : (a : ℤ) (h : ℕ) {b m : ℕ} → 0 < b → 0 < m → 2 * h ≡ b * m → floor (floor (a +ℤ pos h) b) m ≡ rnd a (b * m)
+rnd-parts a h {b} {m} p q e =
+    let z = a +ℤ pos h in
+    let u : floor z b +ℤ pos 0 ≡ floor z b = simp ints (omega arith) in
+    let w : z +ℤ pos b *ℤ pos 0 ≡ z = simp ints (omega arith) in
+    rw u at (rw w at (floor-floor z (pos 0) p q (mul-pos p q))) ∙ rnd-half a h e
 
 -- rounding by 2 h m, after a floor by h: the half, h m, comes out as m
 pub rnd-after : (a : ℤ) (h m : ℕ) → 0 < h → 0 < m → floor (floor a h +ℤ pos m) (2 * m) ≡ rnd a (h * (2 * m))

@@ -1,13 +1,15 @@
 // Rounding and clamping of signed sums. The laws of whole numbers that every other crate cites are in specs/.
 // No function here is a public call: `transform`, `split`, `stream` and `text` call them, each under its requires.
 ghost use mathlib.Core.Path.{_≡_};
-ghost use Prim.Native.Nat.{_≤_, _<_, _*_, _^_};
+ghost use Prim.Native.Nat.{_+_, _≤_, _<_, _*_, _/_, _^_};
+ghost use lib.Dec.{T};
 ghost use lib.IntN.{pos, negℤ, natAbs};
 ghost use lib.Signed.{_≤ℤ_, _<ℤ_, shrZ};
 ghost use mir.Syntax.{w64};
 ghost use mir.Val.{SFits};
 ghost use Rattle.arithmetic.specs.Rounding.{floor, rnd, clamp};
 ghost use Rattle.arithmetic.specs.SampleLaws.{limited};
+ghost use Rattle.arithmetic.specs.QuotientLaws.{quarters, splits};
 
 // The floor of a / 2^k, which fits.
 fn shifted(a: i64, k: u32) -> i64
@@ -26,7 +28,7 @@ pub fn rnd_shift(a: i64, k: u32) -> i64
 }
 
 // b, limited to least..=most.
-fn limited(b: i64, least: i64, most: i64) -> i64
+fn limited(b: i32, least: i32, most: i32) -> i32
     ensures { λ r. ⌜ r ≡ limited least most b ⌝ }
 {
     if b < least {
@@ -38,25 +40,70 @@ fn limited(b: i64, least: i64, most: i64) -> i64
     b
 }
 
-// The floor of c / 2n where it is a sample: c is raised to a number without a sign, and the quotient lowered by as much.
-fn quotient(c: i64, n: usize) -> i16
-    requires { ⌜ (0 < n) × (n < 2 ^ 15) × (negℤ (pos (65536 * n)) ≤ℤ c) × (c <ℤ pos (65536 * n)) ⌝ }
-    ensures { λ r. ⌜ r ≡ floor c (2 * n) ⌝ }
+// The next whole number above 2^32 / m, for m = 3, 9, 27 or twice one of them.
+fn reciprocal(m: usize) -> u64
+    requires { ⌜ T (quarters m) ⌝ }
+    ensures { λ r. ⌜ r ≡ 2 ^ 32 / m + 1 ⌝ }
 {
-    let raised = c + (65536 * n) as i64;
-    let d = raised as u32 / (2 * n) as u32;
+    if m == 3 {
+        return 1431655766;
+    }
+    if m == 6 {
+        return 715827883;
+    }
+    if m == 9 {
+        return 477218589;
+    }
+    if m == 18 {
+        return 238609295;
+    }
+    if m == 27 {
+        return 159072863;
+    }
+    79536432
+}
+
+// r / m, for the numbers of which it is below 65,536: by a multiplication, and a division by 2^32.
+fn over(r: u32, m: usize) -> u32
+    requires { ⌜ T (quarters m) × (r < 65536 * m) ⌝ }
+    ensures { λ q. ⌜ q ≡ r / m ⌝ }
+{
+    (r as u64 * reciprocal(m) / 4294967296) as u32
+}
+
+// The floor of c / m where it is a sample: c is raised to a number without a sign, and the quotient lowered by as much.
+fn quotient(c: i32, m: usize) -> i16
+    requires { ⌜ T (quarters m) × (negℤ (pos (32768 * m)) ≤ℤ c) × (c <ℤ pos (32768 * m)) ⌝ }
+    ensures { λ r. ⌜ r ≡ floor c m ⌝ }
+{
+    let raised = c + (32768 * m) as i32;
+    let d = over(raised as u32, m);
     (d as i32 - 32768) as i16
 }
 
-// A sample of a hop: rnd(a / (n × 2^30)), clamped. A shift by 29 goes first, so that no sum can overflow. The clamp goes next, to the numbers
-// whose quotient is a sample, so that the division is of a small number without a sign: where the compiler knows n, one multiplication.
+// The floor of b / m, clamped: b is first limited to the numbers whose floor is a sample.
+fn clamped(b: i32, m: usize) -> i16
+    requires { ⌜ T (quarters m) ⌝ }
+    ensures { λ r. ⌜ r ≡ clamp (floor b m) ⌝ }
+{
+    let edge = (32768 * m) as i32;
+    quotient(limited(b, -edge, edge - 1), m)
+}
+
+// The floor of a / 2^32: its upper word.
+fn upper(a: i64) -> i32
+    ensures { λ r. ⌜ r ≡ floor a (2 ^ 32) ⌝ }
+{
+    (a >> 32) as i32
+}
+
+// A sample of a hop: rnd(a / (n × 2^30)), clamped. The half is added, the upper word taken, and what is left to divide by is a quarter of n.
 pub fn sample(a: i64, n: usize) -> i16
-    requires { ⌜ (0 < n) × (n < 2 ^ 15) ⌝ }
+    requires { ⌜ T (splits n) ⌝ }
+    requires { ⌜ natAbs a ≤ n * 2 ^ 55 ⌝ }
     ensures { λ r. ⌜ r ≡ clamp (rnd a (n * 2 ^ 30)) ⌝ }
 {
-    let b = (a >> 29) + n as i64;
-    let edge = (65536 * n) as i64;
-    quotient(limited(b, -edge, edge - 1), n)
+    clamped(upper(a + (536870912 * n) as i64), n / 4)
 }
 
 // The size of v: its number without its sign. The least i64 has one too.

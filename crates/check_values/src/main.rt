@@ -1,10 +1,11 @@
 // The table, the window, the kernels and the roundings at chosen places, compared with what vectors/values.py makes from the definitions.
-ghost use Prim.Native.Nat.{_≤_, _<_, _/_, _^_};
+ghost use Prim.Native.Nat.{_≤_, _<_, _/_};
 ghost use lib.Dec.{T};
+ghost use Rattle.arithmetic.specs.QuotientLaws.{splits};
 ghost use Rattle.cosine.specs.Kernels.{tabled};
 
-// Sums around zero, halves of either sign of every divisor, one beside them, and the ends of the type.
-const COUNT: usize = 68;
+// Sums around zero, halves of either sign of every divisor, one beside them, and the ends of a sum.
+const COUNT: usize = 73;
 
 const SUMS: [i64; COUNT] = [
     0,
@@ -48,33 +49,38 @@ const SUMS: [i64; COUNT] = [
     -6442450945,
     -6442450944,
     -6442450943,
+    432345564227567616,
+    -432345564227567616,
     12884901887,
     12884901888,
     12884901889,
     -12884901889,
     -12884901888,
     -12884901887,
+    864691128455135232,
+    -864691128455135232,
     19327352831,
     19327352832,
     19327352833,
     -19327352833,
     -19327352832,
     -19327352831,
+    1297036692682702848,
+    -1297036692682702848,
     38654705663,
     38654705664,
     38654705665,
     -38654705665,
     -38654705664,
     -38654705663,
+    2594073385365405696,
+    -2594073385365405696,
     32767,
     32768,
     -32768,
     -32769,
     1234567890123456789,
     -1234567890123456789,
-    9223372036854775807,
-    -9223372036854775807,
-    -9223372036854775808,
 ];
 
 fn line(word: &[u8], of: usize, a: i64, value: i64) {
@@ -103,20 +109,33 @@ fn shifts(k: u32)
     }
 }
 
-// Quotients by n × 2^30, clamped.
-fn scales(n: usize)
-    requires { ⌜ (0 < n) × (n < 2 ^ 15) ⌝ }
+// A quotient by n × 2^30, clamped, of a sum within n × 2^55.
+fn scale(n: usize, a: i64)
+    requires { ⌜ T (splits n) ⌝ }
 {
-    for i in 0..COUNT {
-        let a = SUMS[i];
+    if arithmetic::size(a) <= n as u64 * 36028797018963968 {
         line(b"scale", n, a, arithmetic::sample(a, n) as i64);
     }
 }
 
-// The clamp by itself: a × 2^30, where that fits, by 1 × 2^30.
+fn scales(n: usize)
+    requires { ⌜ T (splits n) ⌝ }
+{
+    for i in 0..COUNT {
+        let a = SUMS[i];
+        scale(n, a);
+    }
+}
+
+// The clamp by itself: a × 12 × 2^30, within 12 × 2^55, by 12 × 2^30.
 fn clamp(i: usize, a: i64) {
-    if arithmetic::size(a) < 8589934592 {
-        line(b"clamp", i, a, arithmetic::sample(a * 1073741824, 1) as i64);
+    if arithmetic::size(a) <= 33554432 {
+        line(
+            b"clamp",
+            i,
+            a,
+            arithmetic::sample(a * 12884901888, 12) as i64,
+        );
     }
 }
 
@@ -183,7 +202,7 @@ fn short_kernels(n: usize)
 }
 
 fn length(n: usize)
-    requires { ⌜ T (tabled n) × (0 < n) × (n < 2 ^ 15) ⌝ }
+    requires { ⌜ T (tabled n) × T (splits n) ⌝ }
 {
     scales(n);
     windows(n);

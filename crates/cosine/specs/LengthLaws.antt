@@ -10,6 +10,7 @@ use mir.Syntax.{w64}
 use mir.Val.{Fits}
 use Rattle.arithmetic.specs.Lists.{every}
 use Rattle.arithmetic.specs.TestLaws.{both-left, both-right}
+use Rattle.arithmetic.specs.QuotientLaws.{quarters, splits}
 use Rattle.cosine.specs.Cosine.{quarter}
 use Rattle.cosine.specs.Kernels.{lengths, tabled, d}
 
@@ -75,6 +76,14 @@ length-of N h =
       some = ltb→lt 0 N (both-left c e v);
       most = leb→le N quarter (both-right c e v);
     }
+
+-- a quarter of it is 3, 9, 27 or twice one of them, as the last step of a sample asks
+splits-test : T (every splits lengths)
+unfolding every splits quarters lengths
+splits-test = tt
+
+pub splits-of : (N : ℕ) → T (tabled N) → T (splits N)
+splits-of = of-tabled splits splits-test
 
 -- ---- what the kernel's laws ask of a length: four parts of it, and d of its parts make a quarter turn. A tabled length has it, and its third
 pub record Part (P : ℕ) : Type 0 where

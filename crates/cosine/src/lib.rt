@@ -133,12 +133,29 @@ pub fn cosine(t: usize) -> i64
     first_quarter(TURN - r)
 }
 
+// d = 72/N of a tabled N, without a division.
+fn parts(n: usize) -> usize
+    requires { ⌜ T (tabled n) ⌝ }
+    ensures { λ r. ⌜ r ≡ d n ⌝ }
+{
+    if n == 12 {
+        return 6;
+    }
+    if n == 24 {
+        return 3;
+    }
+    if n == 36 {
+        return 2;
+    }
+    1
+}
+
 // The window W(i). Its angle d × (N - 2i - 1) is a quarter less d × (2i + 1): with a turn added it is not negative.
 pub fn window(n: usize, i: usize) -> i64
     requires { ⌜ T (tabled n) × (i < n) ⌝ }
     ensures { λ r. ⌜ r ≡ W n i ⌝ }
 {
-    let d = QUARTER / n;
+    let d = parts(n);
     cosine(TURN + QUARTER - d * (2 * i + 1))
 }
 
@@ -147,7 +164,7 @@ pub fn kernel(n: usize, i: usize, k: usize) -> i64
     requires { ⌜ T (tabled n) × (i < n) × (k < n / 2) ⌝ }
     ensures { λ r. ⌜ r ≡ K n i k ⌝ }
 {
-    let d = QUARTER / n;
+    let d = parts(n);
     cosine(d * (2 * i + 1 + n / 2) * (2 * k + 1))
 }
 
@@ -156,6 +173,6 @@ pub fn short_kernel(n: usize, i: usize, k: usize) -> i64
     requires { ⌜ T (tabled n) × (i < n / 3) × (k < n / 6) ⌝ }
     ensures { λ r. ⌜ r ≡ L n i k ⌝ }
 {
-    let d = QUARTER / n;
+    let d = parts(n);
     cosine(3 * d * (2 * i + 1 + n / 6) * (2 * k + 1))
 }

@@ -8,6 +8,7 @@ use lib.ListN.{length, drop}
 use lib.IntN.{ℤ, pos, natAbs, _+ℤ_}
 use Rattle.arithmetic.specs.Rounding.{rnd, clamp}
 use Rattle.arithmetic.specs.Lists.{at, table, Small}
+use Rattle.arithmetic.specs.QuotientLaws.{splits}
 use Rattle.arithmetic.specs.ListLaws.{table-ext, getD-table, length-table}
 use Rattle.cosine.specs.Kernels.{tabled, rising, falling}
 use Rattle.cosine.specs.LengthLaws.{Part}
@@ -29,6 +30,7 @@ pub record Held (m : ℕ) (xs : List ℤ) : Type 0 where
 -- ---- a step of N on valid input: coefficients, a tail, and room for the hop
 pub record Step (N : ℕ) (x tail out : List ℤ) : Type 0 where
   pub part : Part N
+  pub divides : T (splits N)
   pub most : N ≤ 2 * storage
   pub input : Input N x
   pub stored : length tail ≡ storage

@@ -2,11 +2,13 @@
 // No function here is a public call: `synthesis` calls `settle`, the public calls and `listing` call `fresh`, after every check.
 ghost use mathlib.Core.Path.{_≡_};
 ghost use mathlib.Core.List.{_++_};
-ghost use Prim.Native.Nat.{_+_, _*_, _/_, _^_, _≤_, _<_};
+ghost use Prim.Native.Nat.{_+_, _*_, _/_, _^_, _≤_};
+ghost use lib.Dec.{T};
 ghost use lib.ListN.{length, drop};
 ghost use lib.IntN.{natAbs, _+ℤ_};
 ghost use Rattle.arithmetic.specs.Rounding.{rnd, clamp};
 ghost use Rattle.arithmetic.specs.Lists.{at, table};
+ghost use Rattle.arithmetic.specs.QuotientLaws.{splits};
 ghost use Rattle.cosine.specs.Kernels.{rising, falling};
 ghost use Rattle.transform.specs.Synthesis.{V′};
 ghost use Rattle.stream.specs.Synthesis.{storage, fresh, hop, newTail};
@@ -32,7 +34,7 @@ pub fn fresh(n: usize) -> Stream
 
 // One sample of a hop.
 fn sample(n: usize, tail: i64, v: i64) -> i16
-    requires { ⌜ 0 < n ⌝ }
+    requires { ⌜ T (splits n) ⌝ }
     requires { ⌜ n ≤ 2 * storage ⌝ }
     requires { ⌜ natAbs tail ≤ n / 2 * 2 ^ 55 ⌝ }
     requires { ⌜ natAbs v ≤ n / 2 * 2 ^ 55 ⌝ }
@@ -43,7 +45,7 @@ fn sample(n: usize, tail: i64, v: i64) -> i16
 
 // The hop: M samples, from the tail and the first half of V.
 fn fill_hop(n: usize, tail: &[i64], v: &[i64], out: &mut [i16])
-    requires { ⌜ 0 < n ⌝ }
+    requires { ⌜ T (splits n) ⌝ }
     requires { ⌜ n ≤ 2 * storage ⌝ }
     requires { ⌜ Held (n / 2) (now tail) ⌝ }
     requires { ⌜ Held (n / 2) (now v) ⌝ }

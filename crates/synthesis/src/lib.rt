@@ -12,7 +12,7 @@ ghost use Rattle.stream.specs.Synthesis.{hop, newTail};
 ghost use Rattle.stream.specs.StepLaws.{Bounded, Step, Valid};
 use stream::Stream;
 
-// A step of each length, so that the compiler knows every count and the divisor.
+// A step of each length, so that the compiler knows every count, and the multiplier of the last step of a sample.
 fn advance_12(x: &[i32], tail: &mut [i64], out: &mut [i16])
     requires { ⌜ Step 12 (now x) (now tail) (now out) ⌝ }
     ensures { λ _. ⌜ now (tail .exit) ≡ newTail 12 (rising 12) (falling 12) (now (tail .entry)) (now (x .entry)) ⌝ }

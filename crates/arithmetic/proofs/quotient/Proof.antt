@@ -1,47 +1,53 @@
--- `quotient` meets its contract: the raised number is below 65,536 × 2n, and its quotient less 32,768 is the floor.
+-- `quotient` meets its contract: c raised by 32768 m is a number without a sign, its quotient is below 65,536, and lowered by 32768 it is the floor.
 use mathlib.Core.Path.{_≡_, _∙_}
 use Prim.Native.Nat.{ℕ, _*_, _/_, _≤_, _<_}
 use native.Mathlib.Nat.{div-lt-iff-lt-mul}
 use native.Mathlib.Omega.{arith}
-use borrow.Author.Needs.{needs}
 use lib.Dec.{lit≤}
 use lib.IntN.{pos, _+ℤ_, _-ℤ_}
 use lib.Pow.{pow-mono}
-use mir.Syntax.{Width, w16, w32, w64}
+use mir.Syntax.{Width, w16, w32}
 use mir.Val.{SFits, hbits, toZ, ofZ}
 use mir.Facts.{toZ-ofZ, toZ-pos}
 use Rattle.arithmetic.specs.OrderLaws.{bounds}
 use Rattle.arithmetic.specs.SampleLaws.{raise, raise-is, raise-less, floor-raise}
+use Rattle.arithmetic.specs.QuotientLaws.{quarters-few}
 use Rattle.arithmetic.proofs.quotient.Statement.{statement}
 use Rattle.arithmetic.proofs.quotient.Tie as tie
 
 module _ (s : tie.Start) where
-  abbrev n : ℕ
-  n = s .args .n
+  abbrev m : ℕ
+  m = s .args .m
+
+  some : 0 < m
+  some = quarters-few m (s .pre .0) .0
+
+  few : m ≤ 54
+  few = quarters-few m (s .pre .0) .1
 
   -- the raised number
-  abbrev m : ℕ
-  m = raise (s .args .c) (65536 * n)
+  abbrev r : ℕ
+  r = raise (s .args .c) (32768 * m)
 
-  m-less : m < 2 * (65536 * n)
-  m-less = raise-less (s .args .c) (65536 * n) (s .pre .2) (s .pre .3)
+  r-less : r < 2 * (32768 * m)
+  r-less = raise-less (s .args .c) (32768 * m) (s .pre .1) (s .pre .2)
 
-  m-fits : SFits w64 (pos m)
-  m-fits = record { sfits = omega (arith, m-less, s .pre .1) }
+  r-fits : SFits w32 (pos r)
+  r-fits = record { sfits = omega (arith, r-less, few) }
 
   -- as the machine has it
-  sum-is : toZ w64 (ofZ w64 (s .args .c)) +ℤ toZ w64 (65536 * n) ≡ pos m
-  sum-is = rw (toZ-ofZ (s .fits .c), toZ-pos w64 {n = 65536 * n} (omega arith)) (raise-is (s .args .c) (65536 * n) (s .pre .2))
+  sum-is : toZ w32 (ofZ w32 (s .args .c)) +ℤ toZ w32 (32768 * m) ≡ pos r
+  sum-is = rw (toZ-ofZ (s .fits .c), toZ-pos w32 {n = 32768 * m} (omega (arith, few))) (raise-is (s .args .c) (32768 * m) (s .pre .1))
 
-  raised-is : toZ w64 (ofZ w64 (toZ w64 (ofZ w64 (s .args .c)) +ℤ toZ w64 (65536 * n))) ≡ pos m
-  raised-is = rw sum-is (toZ-ofZ m-fits)
+  raised-is : toZ w32 (ofZ w32 (toZ w32 (ofZ w32 (s .args .c)) +ℤ toZ w32 (32768 * m))) ≡ pos r
+  raised-is = rw sum-is (toZ-ofZ r-fits)
 
-  -- the quotient, as the machine has it
+  -- its quotient
   abbrev d : ℕ
-  d = m / (2 * n)
+  d = r / m
 
   d-less : d < 65536
-  d-less = div-lt-iff-lt-mul {k = 2 * n} {x = m} {y = 65536} (omega (arith, s .pre .0)) .1 (omega (arith, m-less))
+  d-less = div-lt-iff-lt-mul {k = m} {x = r} {y = 65536} some .1 (omega (arith, r-less))
 
   d-is : toZ w32 d ≡ pos d
   d-is = toZ-pos w32 (omega (arith, d-less))
@@ -50,39 +56,38 @@ module _ (s : tie.Start) where
   result-fits h = simp bounds (omega (arith, d-less, pow-mono h))
 
 mul-raised : tie.Need-mul-raised
-mul-raised c = search needs
+mul-raised c = omega (arith, few c)
 
 cast-raised : tie.Need-cast-raised
-cast-raised c = search needs
+cast-raised c = record { sfits = omega (arith, few c) }
 
 add-raised : tie.Need-add-raised
-add-raised c = rw (sum-is c) (m-fits c)
+add-raised c = rw (sum-is c) (r-fits c)
 
-cast-d : tie.Need-cast-d
-cast-d c = rw (raised-is c) (tt, record { fits = omega (arith, m-less c, c .pre .1) })
+cast-over : tie.Need-cast-over
+cast-over c = rw (raised-is c) (tt, record { fits = omega (arith, r-less c, few c) })
 
-mul-d : tie.Need-mul-d
-mul-d c = search needs
+over-requires : tie.Need-over-requires
+over-requires c κs = rw (raised-is c) (c .pre .0, omega (arith, r-less c))
 
-cast-d-2 : tie.Need-cast-d-2
-cast-d-2 c = search needs
-
-div-d : tie.Need-div-d
-div-d c = search needs
+-- what `over` gave
+given : (c : tie.After-over) → c .over .result ≡ d (c .before)
+given c = rw (raised-is (c .before)) at (c .over .ensures)
 
 cast-result : tie.Need-cast-result
-cast-result c = rw (raised-is c) (record { sfits = omega (arith, d-less c) })
+cast-result c = rw (given c) (record { sfits = omega (arith, d-less (c .before)) })
 
 sub-result : tie.Need-sub-result
-sub-result c = rw (raised-is c, d-is c) (result-fits c (lit≤ tt))
+sub-result c = rw (given c, d-is (c .before)) (result-fits (c .before) (lit≤ tt))
 
 cast-result-2 : tie.Need-cast-result-2
-cast-result-2 c = rw (raised-is c, d-is c, toZ-ofZ (result-fits c {w = w32} (lit≤ tt))) (result-fits c (lit≤ tt))
+cast-result-2 c = let s = c .before in rw (given c, d-is s, toZ-ofZ (result-fits s {w = w32} (lit≤ tt))) (result-fits s (lit≤ tt))
 
 returns : tie.Need-returns
 returns c =
-    rw (raised-is c, d-is c, toZ-ofZ (result-fits c {w = w32} (lit≤ tt)))
-    (toZ-ofZ {w = w16} (result-fits c (lit≤ tt)) ∙ floor-raise (c .args .c) 32768 (omega (arith, c .pre .0)) (omega arith) (c .pre .2))
+    let s = c .before in
+    rw (given c, d-is s, toZ-ofZ (result-fits s {w = w32} (lit≤ tt)))
+    (toZ-ofZ {w = w16} (result-fits s (lit≤ tt)) ∙ floor-raise (s .args .c) 32768 (some s) (omega arith) (s .pre .1))
 
 pub quotient-spec : {M : Type 1} → statement M
 quotient-spec =
@@ -91,10 +96,8 @@ quotient-spec =
     mul-raised
     cast-raised
     add-raised
-    cast-d
-    mul-d
-    cast-d-2
-    div-d
+    cast-over
+    over-requires
     cast-result
     sub-result
     cast-result-2

@@ -1,12 +1,14 @@
--- `clamp` is safe and ends: a sum below 2^33 by 2^30 fits.
+-- `clamp` is safe and ends: a sum up to 2^25 by 12 × 2^30 is within 12 × 2^55.
 use mathlib.Core.Path.{_≡_, sym}
-use Prim.Native.Nat.{_^_}
+use Prim.Native.Nat.{_*_, _^_, _≤_}
 use native.Mathlib.Omega.{arith}
 use borrow.Author.Needs.{needs}
-use lib.IntN.{pos, natAbs, _*ℤ_}
+use lib.IntN.{ℤ, pos, natAbs, _*ℤ_}
 use mir.Syntax.{w64}
-use mir.Val.{toZ, ofZ}
+use mir.Val.{SFits, toZ, ofZ}
+use mir.Facts.{toZ-ofZ}
 use Rattle.arithmetic.specs.OrderLaws.{signs, sfits-abs, abs-mul}
+use Rattle.arithmetic.specs.QuotientLaws.{quarters, splits}
 use Rattle.check_values.proofs.clamp.Statement.{statement}
 use Rattle.check_values.proofs.clamp.Tie as tie
 
@@ -16,14 +18,25 @@ size-requires c κs = search needs
 slice-aggregate-line : tie.Need-slice-aggregate-line
 slice-aggregate-line c = search needs
 
+module _ (c : tie.After-line-arg) where
+  -- the sum, within 12 × 2^55
+  abbrev z : ℤ
+  z = toZ w64 (ofZ w64 (c .before .before .before .args .a))
+
+  most : natAbs (z *ℤ pos 12884901888) ≤ 12 * 2 ^ 55
+  most =
+      let e : natAbs z ≡ c .before .before .size .result = sym (c .before .before .size .ensures) in
+      rw (abs-mul z (pos 12884901888), e) (omega (arith, c .before .if1 .taken))
+
+  fits : SFits w64 (z *ℤ pos 12884901888)
+  fits = sfits-abs (z *ℤ pos 12884901888) (omega (arith, most))
+
 mul-sample : tie.Need-mul-sample
-mul-sample c =
-    let z = toZ w64 (ofZ w64 (c .before .before .before .args .a)) in
-    let e : natAbs z ≡ c .before .before .size .result = sym (c .before .before .size .ensures) in
-    sfits-abs (z *ℤ pos (2 ^ 30)) (rw (abs-mul z (pos (2 ^ 30)), e) (omega (arith, c .before .if1 .taken)))
+mul-sample c = fits c
 
 sample-requires : tie.Need-sample-requires
-sample-requires c κs = search needs
+unfolding splits quarters
+sample-requires c κs = (tt, rw (toZ-ofZ (fits c)) (most c))
 
 cast-line : tie.Need-cast-line
 cast-line c = search signs

@@ -1,7 +1,7 @@
 -- `main` is safe and ends: the four lengths are tabled.
 use borrow.Author.Needs.{needs}
-use lib.Dec.{lit<}
 use Rattle.arithmetic.specs.Lists.{every}
+use Rattle.arithmetic.specs.QuotientLaws.{quarters, splits}
 use Rattle.cosine.specs.Kernels.{tabled, lengths}
 use Rattle.check_values.proofs.main.Statement.{statement}
 use Rattle.check_values.proofs.main.Tie as tie
@@ -28,20 +28,20 @@ cosines-requires : tie.Need-cosines-requires
 cosines-requires c κs = search needs
 
 length-requires : tie.Need-length-requires
-unfolding tabled every lengths
-length-requires c κs = (tt, lit< tt, lit< tt)
+unfolding tabled every lengths splits quarters
+length-requires c κs = (tt, tt)
 
 length-requires-2 : tie.Need-length-requires-2
-unfolding tabled every lengths
-length-requires-2 c κs = (tt, lit< tt, lit< tt)
+unfolding tabled every lengths splits quarters
+length-requires-2 c κs = (tt, tt)
 
 length-requires-3 : tie.Need-length-requires-3
-unfolding tabled every lengths
-length-requires-3 c κs = (tt, lit< tt, lit< tt)
+unfolding tabled every lengths splits quarters
+length-requires-3 c κs = (tt, tt)
 
 length-requires-4 : tie.Need-length-requires-4
-unfolding tabled every lengths
-length-requires-4 c κs = (tt, lit< tt, lit< tt)
+unfolding tabled every lengths splits quarters
+length-requires-4 c κs = (tt, tt)
 
 returns : tie.Need-returns
 returns c = search needs

@@ -1,15 +1,14 @@
 -- `scales` is safe and ends: the loop counts to the number of sums.
 use Prim.Native.Nat.{_-_, _≤_}
-use Rattle.arithmetic.specs.OrderLaws.{signs}
 use borrow.Author.Needs.{needs}
 use Rattle.check_values.proofs.scales.Statement.{statement}
 use Rattle.check_values.proofs.scales.Tie as tie
 
 abbrev Inv-loop : tie.InvT-loop
-Inv-loop n i₀ t4 i = i ≤ 68
+Inv-loop n i₀ i = i ≤ 73
 
 abbrev μ-loop : tie.MeasureT-loop
-μ-loop n i₀ t4 i = 68 - i
+μ-loop n i₀ i = 73 - i
 
 loop-holds : tie.Need-loop-holds Inv-loop μ-loop
 loop-holds c = search needs
@@ -20,17 +19,8 @@ mul-a c = search needs
 array-copy-out-a : tie.Need-array-copy-out-a Inv-loop μ-loop
 array-copy-out-a c = search needs
 
-slice-aggregate-line : tie.Need-slice-aggregate-line Inv-loop μ-loop
-slice-aggregate-line c = search needs
-
-sample-requires : tie.Need-sample-requires Inv-loop μ-loop
-sample-requires c κs = search needs
-
-cast-line : tie.Need-cast-line Inv-loop μ-loop
-cast-line c = search signs
-
-line-requires : tie.Need-line-requires Inv-loop μ-loop
-line-requires c κs = search needs
+scale-requires : tie.Need-scale-requires Inv-loop μ-loop
+scale-requires c κs = search needs
 
 add-i : tie.Need-add-i Inv-loop μ-loop
 add-i c = search needs
@@ -53,10 +43,7 @@ scales-spec =
     loop-holds
     mul-a
     array-copy-out-a
-    slice-aggregate-line
-    sample-requires
-    cast-line
-    line-requires
+    scale-requires
     add-i
     loop-less
     loop-again

@@ -27,23 +27,23 @@ module _ (c : tie.Start) where
       double : (d n : ℕ) → d * n ≡ quarter → d * (2 * n) ≡ quarter + quarter
       double d n h = omega arith
 
-div-d : tie.Need-div-d
-div-d c = search needs
+parts-requires : tie.Need-parts-requires
+parts-requires c κs = search needs
 
 add-cosine : tie.Need-add-cosine
 add-cosine c = search needs
 
 mul-cosine : tie.Need-mul-cosine
-mul-cosine c = omega (arith, len c .most)
+mul-cosine c = omega (arith, len (c .before) .most)
 
 add-cosine-2 : tie.Need-add-cosine-2
-add-cosine-2 c = omega (arith, len c .most)
+add-cosine-2 c = omega (arith, len (c .before) .most)
 
 mul-cosine-2 : tie.Need-mul-cosine-2
-mul-cosine-2 c = omega (arith, angle≤ c)
+mul-cosine-2 c = rw (c .parts .ensures) (omega (arith, angle≤ (c .before)))
 
 sub-cosine : tie.Need-sub-cosine
-sub-cosine c = omega (arith, angle≤ c)
+sub-cosine c = rw (c .parts .ensures) (omega (arith, angle≤ (c .before)))
 
 cosine-requires : tie.Need-cosine-requires
 cosine-requires c κs = search needs
@@ -51,11 +51,11 @@ cosine-requires c κs = search needs
 returns : tie.Need-returns
 unfolding W
 returns c =
-    let s = c .before in
+    let s = c .before .before in
     let n = s .args .n in
     let b = 2 * s .args .i + 1 in
     toZ-ofZ (record { sfits = c .cosine .ok })
-    ∙ c .cosine .ensures
+    ∙ (rw (c .before .parts .ensures) at (c .cosine .ensures))
     ∙ ap C (back (d n) n b (len s .parts) (angle≤ s))
     ∙ C-period (pos (d n) *ℤ (pos n -ℤ pos b)) (pos 1)
   where
@@ -65,4 +65,4 @@ returns c =
 pub window-spec : {M : Type 1} → statement M
 window-spec =
     tie.close
-    (tie.spec div-d add-cosine mul-cosine add-cosine-2 mul-cosine-2 sub-cosine cosine-requires returns)
+    (tie.spec parts-requires add-cosine mul-cosine add-cosine-2 mul-cosine-2 sub-cosine cosine-requires returns)

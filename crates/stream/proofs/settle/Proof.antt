@@ -26,7 +26,7 @@ module _ (s : tie.Start) where
 fill-hop-requires : tie.Need-fill-hop-requires
 fill-hop-requires c κs =
     let s = c .before .before in
-    (s .pre .0 .part .some, (s .pre .0 .most, (record { long = omega (arith, s .pre .0 .stored, s .pre .0 .most); bounded = s .pre .0 .bounded }, (record { long = omega (arith, long s); bounded = bounded s }, s .pre .0 .room))))
+    (s .pre .0 .divides, (s .pre .0 .most, (record { long = omega (arith, s .pre .0 .stored, s .pre .0 .most); bounded = s .pre .0 .bounded }, (record { long = omega (arith, long s); bounded = bounded s }, s .pre .0 .room))))
 
 shift-requires : tie.Need-shift-requires
 shift-requires c κs =

@@ -6,7 +6,7 @@ use native.Mathlib.Omega.{arith}
 use lib.ListN.{length, take}
 use lib.Seq.{take-all}
 use lib.IntN.{ℤ}
-use Rattle.cosine.specs.LengthLaws.{length-of, part-of, last-length}
+use Rattle.cosine.specs.LengthLaws.{splits-of, length-of, part-of, last-length}
 use Rattle.stream.specs.StepLaws.{Step, step-at}
 use borrow.Author.Needs.{needs}
 use Rattle.synthesis.proofs.advance_tail.Statement.{statement}
@@ -27,6 +27,7 @@ module _ (s : tie.Start) (M : ℕ) (e : s .args .n ≡ 2 * M) where
   asked =
       record {
         part = rw e at (part-of (s .args .n) (s .pre .0));
+        divides = rw e at (splits-of (s .args .n) (s .pre .0));
         most = omega (arith, length-of (s .args .n) (s .pre .0) .most, e);
         input = record { most = omega (arith, length-of (s .args .n) (s .pre .0) .most, e); long = omega (arith, counted); small = rw whole (s .pre .2) };
         stored = s .pre .3;

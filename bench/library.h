@@ -1,0 +1,17 @@
+/* The library's calls over a batch of blocks, as bench.c times them: each returns the refusals, or'ed. A checkout of an earlier commit is timed beside this one under the
+ * name `before`, by its own library.c, for the calls as they were. */
+#include <stddef.h>
+#include <stdint.h>
+
+struct library {
+    /* n, blocks, a padded recording of blocks - 1 hops, its blocks' coefficients */
+    uint32_t (*direct)(size_t, size_t, const int16_t *, int32_t *);
+    uint32_t (*by_short_route)(size_t, size_t, const int16_t *, int32_t *);
+    uint32_t (*recording_direct)(size_t, size_t, const int16_t *, int32_t *);
+    uint32_t (*recording_short)(size_t, size_t, const int16_t *, int32_t *);
+    /* n, blocks, their coefficients, a hop of sound for each block */
+    uint32_t (*step)(size_t, size_t, const int32_t *, int16_t *);
+    uint32_t (*synthesis)(size_t, size_t, const int32_t *, int16_t *);
+};
+
+extern const struct library library;
