@@ -1,6 +1,8 @@
 /* Times the library beside plain C of the same definitions, in one run: each round gives every contender one short batch, and the least time of
- * a batch counts. Prints Markdown. With the word 'count' it runs one batch of each for callgrind, which counts instructions. */
+ * a batch counts. Prints Markdown. With the word 'count' it runs one batch of each for callgrind, which counts instructions. A contender that
+ * is not offered at a length is left out there. */
 #define _POSIX_C_SOURCE 200809L
+#include "lengths.h"
 #include "library.h"
 #include "plain.h"
 #include <math.h>
@@ -21,20 +23,20 @@
 #include <libavutil/tx.h>
 #endif
 
-/* the most hops of a recording, and the lengths */
-enum { LONGEST = 4095, LENGTHS = 4 };
-static const size_t lengths[LENGTHS] = {12, 24, 36, 72};
-/* blocks of a batch, for some tens of microseconds at each length */
-static const size_t batches[LENGTHS] = {512, 256, 128, 64};
+/* the most hops of a recording */
+enum { LONGEST = 4095 };
+
+/* blocks of a batch, for some tens of microseconds at each length; a sixteenth of them still is a recording */
+static const size_t batches[LENGTHS] = {512, 256, 128, 64, 32, 32};
 
 /* For each length a recording of random samples between two hops of zeros, its coefficients by direct analysis, and room for every result.
  * The last hop of a batch is zeros too, so that its blocks are those of a recording of its own, of one hop fewer. Sound begins with the run-in,
  * so that each sample returns at its place in the padded recording. */
-static int16_t all_padded[LENGTHS][(LONGEST + 2) * 36], *padded;
-static int32_t all_spectra[LENGTHS][(LONGEST + 1) * 36], *spectra;
-static int32_t coefficients[(LONGEST + 1) * 36];
-static int16_t sound[(LONGEST + 1) * 36];
-static int64_t tail[36];
+static int16_t all_padded[LENGTHS][(LONGEST + 2) * MOST_M], *padded;
+static int32_t all_spectra[LENGTHS][(LONGEST + 1) * MOST_M], *spectra;
+static int32_t coefficients[(LONGEST + 1) * MOST_M];
+static int16_t sound[(LONGEST + 1) * MOST_M];
+static int64_t tail[MOST_M];
 
 static uint32_t refused;
 
@@ -58,11 +60,24 @@ static uint32_t refused;
     SYNTHESIS(whose, step)                                                    \
     SYNTHESIS(whose, synthesis)
 
+/* Whether it takes length l at all, and by the short route: a block is refused with 1 where it does not. */
+#define OFFERS(whose)                                                         \
+    static int whose##_offers(int l)                                          \
+    {                                                                         \
+        return whose.direct(lengths[l], 1, padded, coefficients) != 1;        \
+    }                                                                         \
+    static int whose##_offers_short(int l)                                    \
+    {                                                                         \
+        return whose.by_short_route(lengths[l], 1, padded, coefficients) != 1; \
+    }
+
 CALLS(library)
+OFFERS(library)
 #ifdef BEFORE
 /* the same calls of an earlier commit */
 extern const struct library before;
 CALLS(before)
+OFFERS(before)
 #endif
 
 #define PLAIN_ANALYSIS(call)                                                  \
@@ -89,11 +104,16 @@ PLAIN_STEP(plain_o3_step_folded)
 PLAIN_STEP(plain_native_step_direct)
 PLAIN_STEP(plain_native_step_folded)
 
+static int plain_offers(int l)
+{
+    return l < LENGTHS;
+}
+
 /* Floating point, for scale only: window, transform and, in synthesis, overlap and rounding to samples. */
-static float windows[LENGTHS][72], *window;
+static float windows[LENGTHS][MOST_N], *window;
 
 #if defined HAVE_FFTW || defined HAVE_AVTX
-static float float_tail[36];
+static float float_tail[MOST_M];
 
 static int16_t float_sample(float z)
 {
@@ -104,7 +124,12 @@ static int16_t float_sample(float z)
 
 #ifdef HAVE_FFTW
 static fftwf_plan plans[LENGTHS], plan;
-static float dct_in[36] __attribute__((aligned(64))), dct_out[36] __attribute__((aligned(64)));
+static float dct_in[MOST_M] __attribute__((aligned(64))), dct_out[MOST_M] __attribute__((aligned(64)));
+
+static int fftw_offers(int l)
+{
+    return plans[l] != NULL;
+}
 
 static void fftw_analysis(size_t n, size_t blocks)
 {
@@ -146,18 +171,22 @@ static void fftw_synthesis(size_t n, size_t blocks)
 #ifdef HAVE_AVTX
 static AVTXContext *forwards[LENGTHS], *inverses[LENGTHS], *forward, *inverse;
 static av_tx_fn forward_txs[LENGTHS], inverse_txs[LENGTHS], forward_tx, inverse_tx;
-static float tx_in[72] __attribute__((aligned(64))), tx_out[72] __attribute__((aligned(64)));
+static float tx_in[MOST_N] __attribute__((aligned(64))), tx_out[MOST_N] __attribute__((aligned(64)));
 static float tx_sign;
 
+static int avtx_offers(int l)
+{
+    return forwards[l] && inverses[l];
+}
+
+/* A context stays empty where FFmpeg does not offer the length. */
 static void avtx_init(int l)
 {
     float scale = 1;
     size_t m = lengths[l] / 2;
     if (av_tx_init(&forwards[l], &forward_txs[l], AV_TX_FLOAT_MDCT, 0, (int)m, &scale, 0) < 0
-        || av_tx_init(&inverses[l], &inverse_txs[l], AV_TX_FLOAT_MDCT, 1, (int)m, &scale, 0) < 0) {
-        fprintf(stderr, "bench: FFmpeg does not offer N = %zu\n", 2 * m);
-        exit(1);
-    }
+        || av_tx_init(&inverses[l], &inverse_txs[l], AV_TX_FLOAT_MDCT, 1, (int)m, &scale, 0) < 0)
+        return;
     /* versions differ in the sign of the inverse: cosine 0 is near -1 at place 3M/2 - 1 */
     memset(tx_in, 0, sizeof tx_in);
     tx_in[0] = 1;
@@ -205,47 +234,50 @@ enum result { COEFFICIENTS, NEAR_COEFFICIENTS, FLOAT_COEFFICIENTS, SOUND, FLOAT_
 struct contender {
     const char *name;
     void (*run)(size_t n, size_t blocks);
+    /* whether it is offered at length l, which is turned to */
+    int (*offers)(int l);
     enum result result;
     int native;
+    int offered[LENGTHS];
     double ns[LENGTHS];
 };
 
 static struct contender contenders[] = {
 #define ANALYSES(name, whose)                                                 \
-    {name ", direct", whose##_direct, COEFFICIENTS, 0, {0}},                  \
-    {name ", short route", whose##_by_short_route, NEAR_COEFFICIENTS, 0, {0}}, \
-    {name ", recording, direct", whose##_recording_direct, COEFFICIENTS, 0, {0}}, \
-    {name ", recording, short route", whose##_recording_short, NEAR_COEFFICIENTS, 0, {0}}
+    {name ", direct", whose##_direct, whose##_offers, COEFFICIENTS, 0, {0}, {0}}, \
+    {name ", short route", whose##_by_short_route, whose##_offers_short, NEAR_COEFFICIENTS, 0, {0}, {0}}, \
+    {name ", recording, direct", whose##_recording_direct, whose##_offers, COEFFICIENTS, 0, {0}, {0}}, \
+    {name ", recording, short route", whose##_recording_short, whose##_offers_short, NEAR_COEFFICIENTS, 0, {0}, {0}}
 #define SYNTHESES(name, whose)                                                \
-    {name ", step", whose##_step, SOUND, 0, {0}},                             \
-    {name ", recording, synthesis", whose##_synthesis, SOUND, 0, {0}}
+    {name ", step", whose##_step, whose##_offers, SOUND, 0, {0}, {0}},        \
+    {name ", recording, synthesis", whose##_synthesis, whose##_offers, SOUND, 0, {0}, {0}}
     ANALYSES("library", library),
 #ifdef BEFORE
     ANALYSES("before", before),
 #endif
-    {"plain C, direct, -O3", run_plain_o3_analyse_direct, COEFFICIENTS, 0, {0}},
-    {"plain C, folded, -O3", run_plain_o3_analyse_folded, COEFFICIENTS, 0, {0}},
-    {"plain C, direct, -O3 -march=native", run_plain_native_analyse_direct, COEFFICIENTS, 1, {0}},
-    {"plain C, folded, -O3 -march=native", run_plain_native_analyse_folded, COEFFICIENTS, 1, {0}},
+    {"plain C, direct, -O3", run_plain_o3_analyse_direct, plain_offers, COEFFICIENTS, 0, {0}, {0}},
+    {"plain C, folded, -O3", run_plain_o3_analyse_folded, plain_offers, COEFFICIENTS, 0, {0}, {0}},
+    {"plain C, direct, -O3 -march=native", run_plain_native_analyse_direct, plain_offers, COEFFICIENTS, 1, {0}, {0}},
+    {"plain C, folded, -O3 -march=native", run_plain_native_analyse_folded, plain_offers, COEFFICIENTS, 1, {0}, {0}},
 #ifdef HAVE_FFTW
-    {"FFTW REDFT11 (float)", fftw_analysis, FLOAT_COEFFICIENTS, 0, {0}},
+    {"FFTW REDFT11 (float)", fftw_analysis, fftw_offers, FLOAT_COEFFICIENTS, 0, {0}, {0}},
 #endif
 #ifdef HAVE_AVTX
-    {"FFmpeg av_tx MDCT (float)", avtx_analysis, FLOAT_COEFFICIENTS, 0, {0}},
+    {"FFmpeg av_tx MDCT (float)", avtx_analysis, avtx_offers, FLOAT_COEFFICIENTS, 0, {0}, {0}},
 #endif
     SYNTHESES("library", library),
 #ifdef BEFORE
     SYNTHESES("before", before),
 #endif
-    {"plain C, step, direct, -O3", run_plain_o3_step_direct, SOUND, 0, {0}},
-    {"plain C, step, folded, -O3", run_plain_o3_step_folded, SOUND, 0, {0}},
-    {"plain C, step, direct, -O3 -march=native", run_plain_native_step_direct, SOUND, 1, {0}},
-    {"plain C, step, folded, -O3 -march=native", run_plain_native_step_folded, SOUND, 1, {0}},
+    {"plain C, step, direct, -O3", run_plain_o3_step_direct, plain_offers, SOUND, 0, {0}, {0}},
+    {"plain C, step, folded, -O3", run_plain_o3_step_folded, plain_offers, SOUND, 0, {0}, {0}},
+    {"plain C, step, direct, -O3 -march=native", run_plain_native_step_direct, plain_offers, SOUND, 1, {0}, {0}},
+    {"plain C, step, folded, -O3 -march=native", run_plain_native_step_folded, plain_offers, SOUND, 1, {0}, {0}},
 #ifdef HAVE_FFTW
-    {"FFTW REDFT11 (float), step", fftw_synthesis, FLOAT_SOUND, 0, {0}},
+    {"FFTW REDFT11 (float), step", fftw_synthesis, fftw_offers, FLOAT_SOUND, 0, {0}, {0}},
 #endif
 #ifdef HAVE_AVTX
-    {"FFmpeg av_tx MDCT (float), step", avtx_synthesis, FLOAT_SOUND, 0, {0}},
+    {"FFmpeg av_tx MDCT (float), step", avtx_synthesis, avtx_offers, FLOAT_SOUND, 0, {0}, {0}},
 #endif
 };
 
@@ -299,11 +331,14 @@ static void turn_to(int l)
 #endif
 }
 
-/* Runs a contender's batch once and holds its coefficients to those of plain C, or its sound to the recording. */
-static void verify(const struct contender *c, int l)
+/* Runs a contender's batch once, where it is offered, and holds its coefficients to those of plain C, or its sound to the recording. */
+static void verify(struct contender *c, int l)
 {
     size_t n = lengths[l], m = n / 2, blocks = batches[l];
     int wrong = 0;
+    c->offered[l] = c->offers(l);
+    if (!c->offered[l])
+        return;
     memset(coefficients, 0x55, sizeof coefficients);
     memset(sound, 0x55, sizeof sound);
     refused = 0;
@@ -325,55 +360,78 @@ static void verify(const struct contender *c, int l)
     }
 }
 
-static double ratio(const char *a, const char *b, int l)
+/* One batch. An untimed part of it goes before, so that its tables are at hand. */
+static void time_batch(struct contender *c, int l)
 {
-    double x = 0, y = 0;
-    for (int c = 0; c < CONTENDERS; c++) {
-        if (!strcmp(contenders[c].name, a))
-            x = contenders[c].ns[l];
-        if (!strcmp(contenders[c].name, b))
-            y = contenders[c].ns[l];
-    }
-    return x / y;
+    c->run(lengths[l], batches[l] / 16);
+    double start = seconds(CLOCK_MONOTONIC);
+    c->run(lengths[l], batches[l]);
+    double spent = (seconds(CLOCK_MONOTONIC) - start) * 1e9 / (double)batches[l];
+    if (c->ns[l] <= 0 || spent < c->ns[l])
+        c->ns[l] = spent;
+}
+
+/* Whether a batch takes more than a millisecond. */
+static int is_long(const struct contender *c, int l)
+{
+    return c->ns[l] * (double)batches[l] > 1e6;
+}
+
+/* The least time of a batch over many rounds, every contender at every length in each round, long batches in every tenth. */
+static void time_all(int rounds)
+{
+    for (int r = -1; r < rounds; r++)
+        for (int l = 0; l < LENGTHS; l++) {
+            turn_to(l);
+            for (int c = 0; c < CONTENDERS; c++) {
+                if (r < 0)
+                    verify(&contenders[c], l);
+                else if (contenders[c].offered[l] && (r % 10 == 0 || !is_long(&contenders[c], l)))
+                    time_batch(&contenders[c], l);
+            }
+        }
+}
+
+static const struct contender *named(const char *name)
+{
+    for (int c = 0; c < CONTENDERS; c++)
+        if (!strcmp(contenders[c].name, name))
+            return &contenders[c];
+    fprintf(stderr, "bench: no contender %s\n", name);
+    exit(1);
 }
 
 static void print_ratio(const char *a, const char *b)
 {
     printf("| %s ÷ %s |", a, b);
-    for (int l = 0; l < LENGTHS; l++)
-        printf(" %.2f |", ratio(a, b, l));
+    for (int l = 0; l < LENGTHS; l++) {
+        if (named(a)->offered[l] && named(b)->offered[l])
+            printf(" %.2f |", named(a)->ns[l] / named(b)->ns[l]);
+        else
+            printf(NOT_OFFERED);
+    }
     printf("\n");
 }
 
-/* The least time of a batch over many rounds, every contender at every length in each round. An untimed part of a batch goes before it, so that
- * its tables are at hand. */
-static void time_all(int rounds)
+static void print_times(void)
 {
-    for (int r = -1; r < rounds; r++)
-        for (int l = 0; l < LENGTHS; l++) {
-            size_t n = lengths[l];
-            turn_to(l);
-            for (int c = 0; c < CONTENDERS; c++) {
-                if (r < 0) {
-                    verify(&contenders[c], l);
-                    continue;
-                }
-                contenders[c].run(n, batches[l] / 16);
-                double start = seconds(CLOCK_MONOTONIC);
-                contenders[c].run(n, batches[l]);
-                double spent = (seconds(CLOCK_MONOTONIC) - start) * 1e9 / (double)batches[l];
-                if (r == 0 || spent < contenders[c].ns[l])
-                    contenders[c].ns[l] = spent;
-            }
-        }
-    printf("| ns per block | N = 12 | N = 24 | N = 36 | N = 72 |\n|---|---:|---:|---:|---:|\n");
+    print_head("ns per block");
     for (int c = 0; c < CONTENDERS; c++) {
         printf("| %s |", contenders[c].name);
-        for (int l = 0; l < LENGTHS; l++)
-            printf(" %.0f |", contenders[c].ns[l]);
+        for (int l = 0; l < LENGTHS; l++) {
+            if (contenders[c].offered[l])
+                printf(" %.0f |", contenders[c].ns[l]);
+            else
+                printf(NOT_OFFERED);
+        }
         printf("\n");
     }
-    printf("\n| ratio | N = 12 | N = 24 | N = 36 | N = 72 |\n|---|---:|---:|---:|---:|\n");
+}
+
+static void print_ratios(void)
+{
+    printf("\n");
+    print_head("ratio");
 #ifdef BEFORE
     print_ratio("library, direct", "before, direct");
     print_ratio("library, short route", "before, short route");
@@ -402,14 +460,53 @@ static void time_all(int rounds)
 #endif
 }
 
-/* A recording's cost per block, of which it has one more than hops, as it grows. Long calls are interrupted now and then, so the processor's
- * own time counts here. */
+/* The sizes of recordings that are timed, and the calls over them. */
+static const size_t hops[] = {1, 4, 16, 64, 256, 1024, LONGEST};
+static const char *const kinds[] = {"direct", "short route", "synthesis"};
+enum { SIZES = sizeof hops / sizeof hops[0], KINDS = sizeof kinds / sizeof kinds[0] };
+
+static const struct contender *recording(int kind)
+{
+    char name[100];
+    snprintf(name, sizeof name, "library, recording, %s", kinds[kind]);
+    return named(name);
+}
+
+/* The time of a block of a recording. Long calls are interrupted now and then, so the processor's own time counts here. */
+static double time_recording(const struct contender *c, size_t n, size_t blocks)
+{
+    /* short recordings are repeated, so that the clock's own cost is small */
+    size_t repeats = blocks < 512 ? 512 / blocks : 1;
+    double start = seconds(CLOCK_THREAD_CPUTIME_ID);
+    for (size_t i = 0; i < repeats; i++)
+        c->run(n, blocks);
+    return (seconds(CLOCK_THREAD_CPUTIME_ID) - start) * 1e9 / (double)(repeats * blocks);
+}
+
+/* A row for each call that is offered at length l: the least time of a block at each size. */
+static void time_recordings_of(int l, int rounds)
+{
+    double least[KINDS][SIZES];
+    for (int r = 0; r < rounds; r++)
+        for (int k = 0; k < KINDS; k++)
+            for (int s = 0; s < SIZES && recording(k)->offered[l]; s++) {
+                double spent = time_recording(recording(k), lengths[l], hops[s] + 1);
+                if (r == 0 || spent < least[k][s])
+                    least[k][s] = spent;
+            }
+    for (int k = 0; k < KINDS; k++) {
+        if (!recording(k)->offered[l])
+            continue;
+        printf("| N = %zu, %s |", lengths[l], kinds[k]);
+        for (int s = 0; s < SIZES; s++)
+            printf(" %.0f |", least[k][s]);
+        printf("\n");
+    }
+}
+
+/* A recording's cost per block, of which it has one more than hops, as it grows. */
 static void time_recordings(int rounds)
 {
-    static const size_t hops[] = {1, 4, 16, 64, 256, 1024, LONGEST};
-    enum { SIZES = sizeof hops / sizeof hops[0], KINDS = 3 };
-    void (*const calls[KINDS])(size_t, size_t) = {library_recording_direct, library_recording_short, library_synthesis};
-    const char *const names[KINDS] = {"direct", "short route", "synthesis"};
     printf("\n| a recording, ns per block |");
     for (int s = 0; s < SIZES; s++)
         printf(" H = %zu |", hops[s]);
@@ -418,27 +515,8 @@ static void time_recordings(int rounds)
         printf("---:|");
     printf("\n");
     for (int l = 0; l < LENGTHS; l++) {
-        size_t n = lengths[l];
-        double least[KINDS][SIZES];
         turn_to(l);
-        for (int r = 0; r < rounds; r++)
-            for (int c = 0; c < KINDS; c++)
-                for (int s = 0; s < SIZES; s++) {
-                    /* short recordings are repeated, so that the clock's own cost is small */
-                    size_t blocks = hops[s] + 1, repeats = blocks < 512 ? 512 / blocks : 1;
-                    double start = seconds(CLOCK_THREAD_CPUTIME_ID);
-                    for (size_t i = 0; i < repeats; i++)
-                        calls[c](n, blocks);
-                    double spent = (seconds(CLOCK_THREAD_CPUTIME_ID) - start) * 1e9 / (double)(repeats * blocks);
-                    if (r == 0 || spent < least[c][s])
-                        least[c][s] = spent;
-                }
-        for (int c = 0; c < KINDS; c++) {
-            printf("| N = %zu, %s |", n, names[c]);
-            for (int s = 0; s < SIZES; s++)
-                printf(" %.0f |", least[c][s]);
-            printf("\n");
-        }
+        time_recordings_of(l, rounds);
     }
 }
 
@@ -452,7 +530,9 @@ static void count_all(void)
             if (contenders[c].native)
                 continue;
             verify(&contenders[c], l);
-            snprintf(text, sizeof text, "%s;%d;%zu", contenders[c].name, l, batches[l]);
+            if (!contenders[c].offered[l])
+                continue;
+            snprintf(text, sizeof text, "%s;%zu;%zu", contenders[c].name, lengths[l], batches[l]);
             CALLGRIND_ZERO_STATS;
             contenders[c].run(lengths[l], batches[l]);
             CALLGRIND_DUMP_STATS_AT(text);
@@ -470,6 +550,8 @@ int main(int argc, char **argv)
     }
     plain_native_init();
     time_all(1500);
+    print_times();
+    print_ratios();
     time_recordings(60);
     return refused != 0;
 }

@@ -1,4 +1,5 @@
-/* Plain C of the whole-number definitions of document 01: direct, N × M sums, and folded by equation (41) of source 003. */
+/* Plain C of the whole-number definitions of documents 01 and 02: direct, N × M sums, and folded by equation (41) of source 003. */
+#include "lengths.h"
 #include "plain.h"
 #include <math.h>
 
@@ -14,23 +15,23 @@
 /* For each length, the window W(n), the kernel K(n,k) by rows of n and by rows of k, and the folded kernel F(j,k) = C(d(2j+1)(2k+1)), which
  * is symmetric. */
 struct tables {
-    int32_t window[72];
-    int32_t kernel[72 * 36];
-    int32_t turned[36 * 72];
-    int32_t folded[36 * 36];
+    int32_t *window, *kernel, *turned, *folded;
 };
 
-static struct tables tables_12, tables_24, tables_36, tables_72;
+#define TABLES(n, ...)                                                                                 \
+    static int32_t window_##n[n], kernel_##n[n * n / 2], turned_##n[n * n / 2], folded_##n[n * n / 4]; \
+    static const struct tables tables_##n = {window_##n, kernel_##n, turned_##n, folded_##n};
+EACH_LENGTH(TABLES, )
 
 static int32_t cosine(long t)
 {
-    t %= 288;
-    return (int32_t)lround(67108864 * cos(6.283185307179586 * (double)t / 288));
+    t %= 864;
+    return (int32_t)lround(67108864 * cos(6.283185307179586 * (double)t / 864));
 }
 
-static void fill(struct tables *t, long n)
+static void fill(const struct tables *t, long n)
 {
-    long m = n / 2, d = 72 / n;
+    long m = n / 2, d = 216 / n;
     for (long i = 0; i < n; i++)
         t->window[i] = cosine(d * (n - 2 * i - 1));
     for (long i = 0; i < n; i++)
@@ -43,10 +44,8 @@ static void fill(struct tables *t, long n)
 
 void PLAIN(init)(void)
 {
-    fill(&tables_12, 12);
-    fill(&tables_24, 24);
-    fill(&tables_36, 36);
-    fill(&tables_72, 72);
+#define FILL(n, ...) fill(&tables_##n, n);
+    EACH_LENGTH(FILL, )
 }
 
 /* rnd(a / 2^k): a right shift of a negative number is arithmetic in gcc. */
@@ -82,7 +81,7 @@ INLINE void sums(const int32_t *rows, size_t count, size_t width, const int32_t 
             s[c] = sum;
         }
     } else {
-        int64_t sum[72];
+        int64_t sum[MOST_N];
         for (size_t c = 0; c < width; c++)
             sum[c] = 0;
         for (size_t r = 0; r < count; r++)
@@ -96,7 +95,7 @@ INLINE void sums(const int32_t *rows, size_t count, size_t width, const int32_t 
 /* out(k) = rnd(S(k) / 2^28), S(k) the sum over i of z(i) × rows(i,k) */
 INLINE void spectrum(const int32_t *rows, size_t count, size_t m, const int32_t *z, int32_t *out)
 {
-    int64_t s[36];
+    int64_t s[MOST_M];
     sums(rows, count, m, z, s);
     for (size_t k = 0; k < m; k++)
         out[k] = (int32_t)rnd(s[k], 28);
@@ -104,7 +103,7 @@ INLINE void spectrum(const int32_t *rows, size_t count, size_t m, const int32_t 
 
 INLINE void analyse_direct(const struct tables *t, size_t n, const int16_t *x, int32_t *out)
 {
-    int32_t y[72];
+    int32_t y[MOST_N];
     windowed(t, n, x, y);
     spectrum(t->kernel, n, n / 2, y, out);
 }
@@ -112,7 +111,7 @@ INLINE void analyse_direct(const struct tables *t, size_t n, const int16_t *x, i
 INLINE void analyse_folded(const struct tables *t, size_t n, const int16_t *x, int32_t *out)
 {
     size_t m = n / 2;
-    int32_t y[72], z[36];
+    int32_t y[MOST_N], z[MOST_M];
     windowed(t, n, x, y);
     for (size_t j = 0; j < m / 2; j++)
         z[j] = -y[3 * m / 2 - 1 - j] - y[3 * m / 2 + j];
@@ -133,7 +132,7 @@ INLINE void joined(const struct tables *t, size_t n, const int64_t *s, int64_t *
 
 INLINE void step_direct(const struct tables *t, size_t n, int64_t *tail, const int32_t *coefficients, int16_t *hop)
 {
-    int64_t s[72];
+    int64_t s[MOST_N];
     sums(t->turned, n / 2, n, coefficients, s);
     joined(t, n, s, tail, hop);
 }
@@ -141,7 +140,7 @@ INLINE void step_direct(const struct tables *t, size_t n, int64_t *tail, const i
 INLINE void step_folded(const struct tables *t, size_t n, int64_t *tail, const int32_t *coefficients, int16_t *hop)
 {
     size_t m = n / 2;
-    int64_t u[36], s[72];
+    int64_t u[MOST_M], s[MOST_N];
     sums(t->folded, m, m, coefficients, u);
     for (size_t i = 0; i < m / 2; i++)
         s[i] = u[m / 2 + i];
@@ -153,12 +152,11 @@ INLINE void step_folded(const struct tables *t, size_t n, int64_t *tail, const i
 }
 
 /* One body for each length, so that the compiler knows every count. */
+#define CASE(length, call, ...)                                         \
+    case length: call(&tables_##length, length, __VA_ARGS__); break;
 #define BY_LENGTH(call, ...)                                            \
     switch (n) {                                                        \
-    case 12: call(&tables_12, 12, __VA_ARGS__); break;                  \
-    case 24: call(&tables_24, 24, __VA_ARGS__); break;                  \
-    case 36: call(&tables_36, 36, __VA_ARGS__); break;                  \
-    case 72: call(&tables_72, 72, __VA_ARGS__); break;                  \
+        EACH_LENGTH(CASE, call, __VA_ARGS__)                            \
     }
 
 void PLAIN(analyse_direct)(size_t n, const int16_t *x, int32_t *out)

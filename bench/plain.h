@@ -1,4 +1,4 @@
-/* Plain C of document 01's definitions, for comparison. plain.c is built twice, as plain_o3 and as plain_native, by VARIANT. Input is valid. */
+/* Plain C of the definitions, for comparison. plain.c is built twice, as plain_o3 and as plain_native, by VARIANT. Input is valid. */
 #ifndef PLAIN_H
 #define PLAIN_H
 

@@ -1,10 +1,11 @@
 //! The library held against the reference, call by call.
 use crate::inputs::*;
 use crate::library;
-use crate::reference::{page_length, tail_limit, Bank, Route, COEFFICIENT_LIMIT, HOPS, LENGTHS, STATE};
+use crate::reference::{offered, page_length, tail_limit, Bank, Route, COEFFICIENT_LIMIT, HOPS, LENGTHS, STATE};
 use std::fmt::Debug;
 
-const MARGIN: usize = 40;
+/// More than any hop.
+const MARGIN: usize = 120;
 
 /// A buffer that is lent to the library between two margins that no call may touch.
 struct Lent<T> {
@@ -212,13 +213,15 @@ impl Compare {
                 self.analyse(route, n, &x, m);
             }
         }
-        for route in ROUTES {
+        for route in routes_of(n) {
             for x in half_blocks(&self.bank, &mut self.random, route, n) {
                 self.analyse(route, n, &x, m);
             }
         }
-        for x in split_half_blocks(&self.bank, &mut self.random, n) {
-            self.analyse(Route::Short, n, &x, m);
+        if offered(Route::Short, n) {
+            for x in split_half_blocks(&self.bank, &mut self.random, n) {
+                self.analyse(Route::Short, n, &x, m);
+            }
         }
         for _ in 0..4000 {
             for route in ROUTES {
@@ -231,7 +234,7 @@ impl Compare {
 
     fn fresh(&mut self) {
         for n in (0..300).chain(WRONG_N) {
-            for length in [STATE, 0, 1, STATE - 1, STATE + 1, 2 * STATE] {
+            for length in WRONG_STATE.into_iter().chain([STATE]) {
                 let state = self.rubbish(length, |z| z as i64);
                 self.stream_fresh(n, state);
             }
@@ -282,7 +285,7 @@ impl Compare {
     fn forged(&mut self, n: usize) {
         let m = n / 2;
         let limit = tail_limit(n);
-        for first in (-100..=100).chain([i64::MIN, i64::MAX, (1 << 32) + n as i64, (1 << 62) + n as i64, i64::MIN + n as i64, -1 << 32]) {
+        for first in (-220..=220).chain([432, i64::MIN, i64::MAX, (1 << 32) + n as i64, (1 << 62) + n as i64, i64::MIN + n as i64, -1 << 32]) {
             let mut made = state(&mut self.random, n);
             made[0] = first;
             let count = self.some_length(m);
@@ -302,7 +305,7 @@ impl Compare {
                 }
             }
         }
-        for length in [0, 1, STATE - 1, STATE + 1] {
+        for length in WRONG_STATE {
             for _ in 0..8 {
                 let mut made = state(&mut self.random, n);
                 made.resize(length, 5);
@@ -441,12 +444,14 @@ impl Compare {
         let padded = [&vec![0; m], x, &vec![0; m]].concat();
         let kind = self.random.below(4);
         let (target, pushed) = (self.random.below(m), self.random.below(hops));
-        let style = self.random.below(3);
+        // all blocks by one route, or each by any
+        let choice = routes_of(n);
+        let style = self.random.below(choice.len() + 1);
         let mut routes = Vec::new();
         let mut given = Vec::new();
         let mut brought = Vec::new();
         for b in 0..=hops {
-            let route = if style < 2 { ROUTES[style] } else { self.random.pick(&ROUTES) };
+            let route = choice.get(style).copied().unwrap_or_else(|| self.random.pick(&choice));
             let (number, coefficients) = self.analyse(route, n, &padded[b * m..b * m + n], m);
             assert_eq!(number, 0);
             // one hop is pushed from both of its blocks
@@ -477,8 +482,8 @@ impl Compare {
                 near(b - 1, &hop, "a list of steps");
             }
         }
-        if style < 2 {
-            assert_eq!(self.analyse_recording(ROUTES[style], n, hops, x, (hops + 1) * m), (0, given));
+        if let Some(&route) = choice.get(style) {
+            assert_eq!(self.analyse_recording(route, n, hops, x, (hops + 1) * m), (0, given));
         }
         let (number, sound) = self.synthesise_recording(n, hops, &brought.concat(), hops * m);
         assert_eq!(number, 0);

@@ -1,8 +1,13 @@
 //! Samples, coefficients and streams to call with.
-use crate::reference::{tail_limit, Bank, Route, COEFFICIENT_LIMIT, STORAGE};
+use crate::reference::{offered, tail_limit, Bank, Route, COEFFICIENT_LIMIT, STATE, STORAGE};
 use std::collections::HashMap;
 
 pub const ROUTES: [Route; 2] = [Route::Direct, Route::Short];
+
+/// The routes that are offered at length n.
+pub fn routes_of(n: usize) -> Vec<Route> {
+    ROUTES.into_iter().filter(|&route| offered(route, n)).collect()
+}
 
 /// Numbers by splitmix64.
 pub struct Random(u64);
@@ -194,7 +199,7 @@ pub const BEYOND: [i32; 6] = [COEFFICIENT_LIMIT + 1, -COEFFICIENT_LIMIT - 1, COE
 
 /// A length that differs from the stated one.
 pub fn wrong_length(random: &mut Random, length: usize) -> usize {
-    let others = [0, 1, length.saturating_sub(1), length + 1, length / 2, 2 * length, length + 36];
+    let others = [0, 1, length.saturating_sub(1), length + 1, length / 2, 2 * length, length + STORAGE];
     loop {
         let other = random.pick(&others);
         if other != length {
@@ -204,7 +209,7 @@ pub fn wrong_length(random: &mut Random, length: usize) -> usize {
 }
 
 /// Block lengths that are not tabled, some equal to a tabled one in their low bits.
-pub const WRONG_N: [usize; 16] = [
+pub const WRONG_N: [usize; 19] = [
     0,
     1,
     6,
@@ -214,14 +219,20 @@ pub const WRONG_N: [usize; 16] = [
     48,
     71,
     73,
-    108,
-    216,
+    107,
+    144,
+    217,
+    432,
     (1 << 32) + 12,
     (1 << 40) + 36,
     (1 << 63) + 72,
+    (1 << 32) + 216,
     usize::MAX,
     usize::MAX - 11,
 ];
+
+/// Lengths of a state that differ from the stated one, among them N with the tail of N = 72 alone.
+pub const WRONG_STATE: [usize; 6] = [0, 1, 37, STATE - 1, STATE + 1, 2 * STATE];
 
 /// A state as a stream may come to hold: N, a tail within its limit, and anything in storage from M on.
 pub fn state(random: &mut Random, n: usize) -> Vec<i64> {

@@ -1,4 +1,4 @@
-//! Document 01, with P1 and P2 of document 02, written out anew: exact series, naive sums, floored division. It shares no table with any other file.
+//! Document 01, with P1, P2 and P4 of document 02, written out anew: exact series, naive sums, floored division. It shares no table with any other file.
 
 /// A natural number of any size, in base 2^64, lowest digit first.
 #[derive(Clone)]
@@ -74,11 +74,11 @@ impl Natural {
     }
 }
 
-/// C(t) for t = 0 to 72: the floor of 2^26 × series + 1/2, over one common denominator.
+/// C(t) for t = 0 to 216: the floor of 2^26 × series + 1/2, over one common denominator.
 fn series(t: u64) -> i128 {
-    // u = 2 × p × t / 288 = a / b
+    // u = 2 × p × t / 864 = a / b
     let a = 3_141_592_653_589_793 * t;
-    let b = 144 * 1_000_000_000_000_000;
+    let b = 432 * 1_000_000_000_000_000;
     let falling = |from: u64, to: u64| (to + 1..=from).product::<u64>();
     // term i is a^2i × b^(20 - 2i) × (20! / (2i)!), over b^20 × 20!
     let term = |i: usize| Natural::power(a, 2 * i).product(&Natural::power(b, 20 - 2 * i)).times(falling(20, 2 * i as u64));
@@ -98,8 +98,10 @@ fn series(t: u64) -> i128 {
     quotient
 }
 
-pub const LENGTHS: [usize; 4] = [12, 24, 36, 72];
-pub const STORAGE: usize = 36;
+pub const LENGTHS: [usize; 6] = [12, 24, 36, 72, 108, 216];
+/// Those at which the short route is offered.
+pub const SHORT_LENGTHS: [usize; 4] = [12, 24, 36, 72];
+pub const STORAGE: usize = 108;
 pub const STATE: usize = 1 + STORAGE;
 pub const COEFFICIENT_LIMIT: i32 = 536_870_912;
 pub const HOPS: usize = 4095;
@@ -120,6 +122,13 @@ pub fn tabled(n: usize) -> bool {
     LENGTHS.contains(&n)
 }
 
+pub fn offered(route: Route, n: usize) -> bool {
+    match route {
+        Route::Direct => tabled(n),
+        Route::Short => SHORT_LENGTHS.contains(&n),
+    }
+}
+
 pub fn tail_limit(n: usize) -> i64 {
     (n / 2) as i64 * (1 << 55)
 }
@@ -130,36 +139,36 @@ pub struct Bank {
 
 impl Bank {
     pub fn new() -> Bank {
-        Bank { quarter: (0..=72).map(series).collect() }
+        Bank { quarter: (0..=216).map(series).collect() }
     }
 
     pub fn c(&self, t: i64) -> i128 {
-        let t = t.rem_euclid(288);
-        if t <= 72 {
+        let t = t.rem_euclid(864);
+        if t <= 216 {
             self.quarter[t as usize]
-        } else if t <= 144 {
-            -self.c(144 - t)
+        } else if t <= 432 {
+            -self.c(432 - t)
         } else {
-            self.c(288 - t)
+            self.c(864 - t)
         }
     }
 
     /// The window W(i) at length n.
     pub fn w(&self, n: usize, i: usize) -> i128 {
         let (n, i) = (n as i64, i as i64);
-        self.c(72 / n * (n - 2 * i - 1))
+        self.c(216 / n * (n - 2 * i - 1))
     }
 
     /// The kernel K(i,k) at length n.
     pub fn k(&self, n: usize, i: usize, k: usize) -> i128 {
         let (n, i, k) = (n as i64, i as i64, k as i64);
-        self.c(72 / n * (2 * i + 1 + n / 2) * (2 * k + 1))
+        self.c(216 / n * (2 * i + 1 + n / 2) * (2 * k + 1))
     }
 
     /// The short kernel L(i,k) at length n.
     pub fn l(&self, n: usize, i: usize, k: usize) -> i128 {
         let (n, i, k) = (n as i64, i as i64, k as i64);
-        self.c(3 * (72 / n) * (2 * i + 1 + n / 6) * (2 * k + 1))
+        self.c(3 * (216 / n) * (2 * i + 1 + n / 6) * (2 * k + 1))
     }
 
     fn windowed(&self, n: usize, x: &[i16]) -> Vec<i128> {
@@ -177,9 +186,9 @@ impl Bank {
         let third = n / 3;
         let (a, b, c) = (y[third - 1 - i], y[2 * third - 1 - i], y[n - 1 - i]);
         let (e, f) = (2 * c - a + b, a + b);
-        let s = 2 * (72 / n as i64) * (2 * i as i64 + 1);
-        let top_b = e * self.c(72 - s) - f * (self.c(s - 24) + self.c(s + 24));
-        let top_c = e * self.c(s) + f * (self.c(48 - s) + self.c(96 - s));
+        let s = 2 * (216 / n as i64) * (2 * i as i64 + 1);
+        let top_b = e * self.c(216 - s) - f * (self.c(s - 72) + self.c(s + 72));
+        let top_c = e * self.c(s) + f * (self.c(144 - s) + self.c(288 - s));
         (a - b + c, top_b, top_c)
     }
 
@@ -228,7 +237,7 @@ impl Bank {
 
     /// V(0) .. V(n-1).
     pub fn v(&self, n: usize, x: &[i32]) -> Vec<i64> {
-        let u = |i: usize| rnd((0..n / 2).map(|k| i128::from(x[k]) * self.k(n, i, k)).sum(), 1 << 26);
+        let u = |i: usize| rnd((0..n / 2).filter(|&k| x[k] != 0).map(|k| i128::from(x[k]) * self.k(n, i, k)).sum(), 1 << 26);
         (0..n).map(|i| i64::try_from(self.w(n, i) * u(i)).expect("V beyond 64 bits")).collect()
     }
 
@@ -245,7 +254,7 @@ impl Bank {
     // The calls of the header, refusals included.
 
     pub fn analyse(&self, route: Route, n: usize, x: &[i16], out: &mut [i32]) -> u32 {
-        if !tabled(n) {
+        if !offered(route, n) {
             return 1;
         }
         if x.len() != n || out.len() != n / 2 {
@@ -291,7 +300,7 @@ impl Bank {
 
     /// Block b, b from 0 to hops, covers hops b - 1 and b. What lies outside the recording is 0.
     pub fn analyse_recording(&self, route: Route, n: usize, hops: usize, x: &[i16], out: &mut [i32]) -> u32 {
-        if !tabled(n) {
+        if !offered(route, n) {
             return 1;
         }
         let m = n / 2;

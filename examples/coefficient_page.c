@@ -13,7 +13,7 @@
 #include <string.h>
 
 /* room for the most hops of the longest length */
-enum { HOPS = 4095, N = 72, M = N / 2 };
+enum { HOPS = 4095, N = 216, M = N / 2 };
 
 static uint8_t bytes[2 * HOPS * M + 1], page[DAPPLESCREE_PAGE(N, HOPS)];
 static int16_t samples[HOPS * M];
@@ -22,8 +22,8 @@ static int32_t coefficients[(HOPS + 1) * M];
 /* the length that a word names, or 0 */
 static size_t tabled(const char *word)
 {
-    static const char *const words[] = {"12", "24", "36", "72"};
-    for (int i = 0; i < 4; i++)
+    static const char *const words[] = {"12", "24", "36", "72", "108", "216"};
+    for (int i = 0; i < 6; i++)
         if (strcmp(word, words[i]) == 0)
             return (size_t)atoi(word);
     return 0;
@@ -39,7 +39,7 @@ int main(int argc, char **argv)
 {
     size_t n = argc == 2 ? tabled(argv[1]) : 0, m = n / 2, most = HOPS * m;
     if (n == 0)
-        return failed(2, "the argument is the block length: 12, 24, 36 or 72");
+        return failed(2, "the argument is the block length: 12, 24, 36, 72, 108 or 216");
 
     size_t length = fread(bytes, 1, 2 * most + 1, stdin), count = length / 2, hops = (count + m - 1) / m;
     if (ferror(stdin))

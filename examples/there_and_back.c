@@ -7,7 +7,7 @@
 #include "dapplescree.h"
 #include <stdio.h>
 
-enum { N = 36, M = N / 2, HOPS = 4, SAMPLES = HOPS * M, COEFFICIENTS = (HOPS + 1) * M };
+enum { N = 216, M = N / 2, HOPS = 4, SAMPLES = HOPS * M, COEFFICIENTS = (HOPS + 1) * M };
 
 static int differing(const int16_t *returned, const int16_t *recording)
 {
@@ -42,5 +42,6 @@ int main(void)
     int by_block = differing(hops + M, recording), by_recording = differing(whole, recording);
     printf("%d samples: %d differ block by block, %d by the calls over a recording\n", SAMPLES, by_block, by_recording);
     printf("N = 11 gives %u\n", dapplescree_analyse_direct(11, padded, N, block, M));
+    printf("N = %d by the short route gives %u\n", N, dapplescree_analyse_short(N, padded, N, block, M));
     return by_block || by_recording;
 }

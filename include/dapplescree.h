@@ -1,14 +1,15 @@
 /* Dapplescree: the filter bank of the seabed recorder, a windowed MDCT in whole numbers.
  *
- * Link target/staticlib/libc_face.a (`rt staticlib c_face`). N is the block length: 12, 24, 36 or 72, the tabled lengths. M = N/2 is a hop.
- * A sample is an int16_t. A coefficient is an int32_t counted in units of 1/64. y, S, X, U, V, rnd, W and K below are those of document 01.
- * A recording has one hop of zeros put before it and one after it: of H hops it has H + 1 blocks, and block b, b from 0 to H, covers its hops
- * b - 1 and b, those outside it being zeros.
+ * Link target/staticlib/libc_face.a (`rt staticlib c_face`). N is the block length: 12, 24, 36, 72, 108 or 216, the tabled lengths. M = N/2 is
+ * a hop. Direct analysis and synthesis are offered at every tabled length, the short route at 12, 24, 36 and 72. A sample is an int16_t. A
+ * coefficient is an int32_t counted in units of 1/64. y, S, X, U, V, rnd, W and K below are those of document 01, with the turn cut in 864
+ * parts (document 02, P4). A recording has one hop of zeros put before it and one after it: of H hops it has H + 1 blocks, and block b, b from
+ * 0 to H, covers its hops b - 1 and b, those outside it being zeros.
  *
  * Each call returns a number:
  *
  *   0  taken
- *   1  n is not tabled
+ *   1  n is not tabled, or is a length at which the short route, where it is asked for, is not offered
  *   2  a length differs from the stated one, or hops is not 1 to 4095
  *   3  a coefficient is below -536870912 or above 536870912
  *   4  the state's entry 0 is not tabled, or one of its first M tail entries lies beyond plus or minus M * 2^55
@@ -17,6 +18,9 @@
  * anything is written: where the number is not 0, every buffer and the state hold what they held. Where it is 0, the buffer that the call fills
  * holds what is said below, the others hold what they held. No call keeps anything between calls, or reads or writes anything but its
  * arguments, so calls on different buffers may run at the same time.
+ *
+ * No call allocates. What a call takes of the stack is measured (bench/run stack) and not proved: below 6 KiB for n up to 72, below 7 KiB for
+ * n = 108 and below 18 KiB for n = 216.
  *
  * These are promises for every value of every argument, under what C cannot check: each pointer is not null, also where its length is 0, is
  * aligned, and points to as many entries as the length that follows it says; the buffers of one call do not overlap; nothing else writes to
@@ -36,7 +40,7 @@ extern "C" {
 #endif
 
 /* The entries of a state: N, and then the tail's storage. Write the name and not the number: later versions have another. */
-#define DAPPLESCREE_STATE 37
+#define DAPPLESCREE_STATE 109
 
 /* The bytes of a page of `hops` hops at the tabled length n: a line of 81 for every six coefficients. It reads each argument once. */
 #define DAPPLESCREE_PAGE(n, hops) (((size_t)(hops) + 1) * ((size_t)(n) / 12) * 81)
@@ -50,7 +54,8 @@ uint32_t dapplescree_analyse_direct(size_t n, const int16_t *samples, size_t sam
                                     size_t coefficients_length);
 
 /* One block, analysed by the short route.
- *   1, 2  as above
+ *   1  n is not 12, 24, 36 or 72
+ *   2  as above
  *   0  coefficients[k] is the short route's X(k), k below M: equal to the direct one where k leaves 1 when divided by 3, else within
  *      16 of it
  */
@@ -92,7 +97,8 @@ uint32_t dapplescree_analyse_recording_direct(size_t n, size_t hops, const int16
     int32_t *coefficients, size_t coefficients_length);
 
 /* A whole recording, each block analysed by the short route.
- *   1, 2  as above
+ *   1  n is not 12, 24, 36 or 72
+ *   2  as above
  *   0  the same, with dapplescree_analyse_short
  */
 uint32_t dapplescree_analyse_recording_short(size_t n, size_t hops, const int16_t *samples, size_t samples_length,

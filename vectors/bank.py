@@ -1,11 +1,13 @@
-"""Document 01, with P1 and P2 of document 02, in exact whole numbers, as plainly as they are written: the source of every stored output.
+"""Document 01, with P1, P2 and P4 of document 02, in exact whole numbers, as plainly as they are written: the source of every stored output.
 It shares no table, folding or rounding with the crates."""
 from fractions import Fraction
 from functools import cache
 from math import factorial, floor
 
-LENGTHS = (12, 24, 36, 72)
-STORAGE = 36
+LENGTHS = (12, 24, 36, 72, 108, 216)
+# those at which the short route is offered
+SHORT_LENGTHS = (12, 24, 36, 72)
+STORAGE = 108
 P = Fraction(3141592653589793, 10**15)
 
 
@@ -15,33 +17,33 @@ def rnd(a, b):
 
 
 def series(t):
-    """C(t) for t = 0 to 72, by the cosine series through u^20/20!."""
-    u = 2 * P * t / 288
+    """C(t) for t = 0 to 216, by the cosine series through u^20/20!."""
+    u = 2 * P * t / 864
     total = sum((-1) ** i * u ** (2 * i) / factorial(2 * i) for i in range(11))
     return floor(67108864 * total + Fraction(1, 2))
 
 
-QUARTER = [series(t) for t in range(73)]
+QUARTER = [series(t) for t in range(217)]
 
 
 @cache
 def C(t):
-    t %= 288
-    if t <= 72:
+    t %= 864
+    if t <= 216:
         return QUARTER[t]
-    return -C(144 - t) if t <= 144 else C(288 - t)
+    return -C(432 - t) if t <= 432 else C(864 - t)
 
 
 def W(N, n):
-    return C(72 // N * (N - 2 * n - 1))
+    return C(216 // N * (N - 2 * n - 1))
 
 
 def K(N, n, k):
-    return C(72 // N * (2 * n + 1 + N // 2) * (2 * k + 1))
+    return C(216 // N * (2 * n + 1 + N // 2) * (2 * k + 1))
 
 
 def L(N, n, k):
-    return C(3 * (72 // N) * (2 * n + 1 + N // 6) * (2 * k + 1))
+    return C(3 * (216 // N) * (2 * n + 1 + N // 6) * (2 * k + 1))
 
 
 def clamp(z):
@@ -64,14 +66,14 @@ def direct(N, x):
 
 
 def short(N, x):
-    yy, d, third, sixth = y(N, x), 72 // N, N // 3, N // 6
+    yy, d, third, sixth = y(N, x), 216 // N, N // 3, N // 6
     main, rB, rC = [], [], []
     for n in range(third):
         a, b, c = yy[third - 1 - n], yy[2 * third - 1 - n], yy[N - 1 - n]
         e, f, s = 2 * c - a + b, a + b, 2 * d * (2 * n + 1)
         main.append(a - b + c)
-        rB.append(rnd(e * C(72 - s) - f * (C(s - 24) + C(s + 24)), 2**26))
-        rC.append(rnd(e * C(s) + f * (C(48 - s) + C(96 - s)), 2**26))
+        rB.append(rnd(e * C(216 - s) - f * (C(s - 72) + C(s + 72)), 2**26))
+        rC.append(rnd(e * C(s) + f * (C(144 - s) + C(288 - s)), 2**26))
     signed = [-rC[n] if (n + N // 12) % 2 == 0 else rC[n] for n in range(third)]
     A = [sum(L(N, n, k) * main[n] for n in range(third)) for k in range(sixth)]
     B = [sum(L(N, n, k) * rB[n] for n in range(third)) for k in range(sixth)]
@@ -86,6 +88,7 @@ def short(N, x):
 
 
 ROUTES = {"direct": direct, "short": short}
+OFFERED = {"direct": LENGTHS, "short": SHORT_LENGTHS}
 
 
 # Synthesis. X is a block's M coefficients.
@@ -157,7 +160,7 @@ def beyond(X):
 
 
 def analyse(route, N, x, length):
-    if N not in LENGTHS:
+    if N not in OFFERED[route]:
         return 1, None
     if len(x) != N or length != N // 2:
         return 2, None
@@ -184,7 +187,7 @@ def step(stream, X, length):
 
 
 def analyse_recording(route, N, H, x, length):
-    if N not in LENGTHS:
+    if N not in OFFERED[route]:
         return 1, None
     M = N // 2
     if not 1 <= H <= HOPS or len(x) != H * M or length != (H + 1) * M:

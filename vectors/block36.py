@@ -17,7 +17,7 @@ DEEP_FIRST, DEEP_SECOND, DEEP_TAIL, DEEP_SOUND = "#1f5a8f", "#a85a00", "#5d3f92"
 
 
 def F(j, k):
-    return C(72 // N * (2 * j + 1) * (2 * k + 1))
+    return C(216 // N * (2 * j + 1) * (2 * k + 1))
 
 
 def folded(n):
@@ -94,7 +94,7 @@ ARROW = ' marker-end="url(#head)"'
 
 # heading
 text(LEFT, 48, "One block of thirty-six samples", 29, "start", weight="bold")
-text(RIGHT, 48, "N = 36,   M = N/2 = 18,   d = 72/N = 2", 18, "end")
+text(RIGHT, 48, "N = 36,   M = N/2 = 18,   d = 216/N = 6", 18, "end")
 
 # the two hops and the window
 top, base = 132, 252
@@ -163,7 +163,7 @@ text(LEFT + 18, y + 26, "Analysis", 15, "start", weight="bold")
 text(
     LEFT + 124,
     y + 26,
-    "y(n) = rnd(W(n) × x(n) / 2¹⁸),   S(k) = sum over j of z(j) × F(j,k),   X(k) = rnd(S(k) / 2²⁸),   F(j,k) = C(2 × (2j + 1) × (2k + 1))",
+    "y(n) = rnd(W(n) × x(n) / 2¹⁸),   S(k) = sum over j of z(j) × F(j,k),   X(k) = rnd(S(k) / 2²⁸),   F(j,k) = C(6 × (2j + 1) × (2k + 1))",
     15,
     "start",
 )
@@ -240,7 +240,7 @@ y = entry(4, 40, "two fold partners: windowed samples that make one sum")
 path([(52, y - 6), (52, y + 5), (86, y + 5), (86, y - 6)], DEEP_FIRST, 1.3)
 for i, name, words in (
     (5, "rnd", "the nearest whole number, an exact half going up"),
-    (6, "C(t)", "the nearest whole number to 2²⁶ times the cosine of t/288 of a turn"),
+    (6, "C(t)", "the nearest whole number to 2²⁶ times the cosine of t/864 of a turn"),
 ):
     text(94, entry(i, 40, words) + 5, name, 14, "end")
 

@@ -1,17 +1,30 @@
 """Writes what crates/check_blocks must print: python3 vectors/blocks.py > crates/check_blocks/stdout"""
+from functools import reduce
+
 from bank import LENGTHS, ROUTES, K, analyse
 
-ROOM = 80
+ROOM = 220
+SHOWN = 80
 MARK = 12345
 MOST, LEAST = 32767, -32768
 SPANS = (32768, 4096, 100, 2)
+
+
+def total(entries):
+    """A running sum of 31 times the sum before and the entry, modulo 2^32."""
+    return reduce(lambda h, v: (31 * h + 2 * abs(v) + (v < 0)) % 2**32, entries, 0)
+
+
+def shown(entries):
+    """The entries, or the length and the sum of many."""
+    return entries if len(entries) <= SHOWN else [len(entries), total(entries)]
 
 
 def both(N, x, l, m):
     """Both routes on the first l entries of x and a buffer of m marks."""
     for route in ROUTES:
         number, out = analyse(route, N, x[:l], m)
-        fields = [N, l, number] + ([MARK] * m if out is None else out)
+        fields = [N, l, number] + shown([MARK] * m if out is None else out)
         print(",".join([route] + [str(f) for f in fields]))
 
 
@@ -60,7 +73,7 @@ def untabled(N, l, m):
     named(N)
     both(N, noise(6, 32768), l, m)
     both(N, noise(7, 32768), 0, 0)
-    both(N, noise(8, 32768), ROOM, ROOM)
+    both(N, noise(8, 32768), 80, 80)
 
 
 for N in LENGTHS:
@@ -71,5 +84,5 @@ for N in LENGTHS:
         block(N, noise(100 * N + b, SPANS[b % 4]))
     wrong_lengths(N, N // 2)
     named(N)
-for N, l, m in ((0, 1, 1), (11, 11, 5), (13, 13, 6), (48, 48, 24), (2**64 - 1, 80, 40)):
+for N, l, m in ((0, 1, 1), (11, 11, 5), (13, 13, 6), (48, 48, 24), (2**64 - 1, 80, 40), (107, 107, 53), (144, 144, 72), (217, 217, 108), (432, 216, 108)):
     untabled(N, l, m)

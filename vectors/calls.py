@@ -4,7 +4,7 @@ import random
 import sys
 
 import bank
-from bank import COEFFICIENT_LIMIT, HOPS, LENGTHS, ROUTES, STATE, STORAGE, page_length, tail_limit
+from bank import COEFFICIENT_LIMIT, HOPS, LENGTHS, ROUTES, SHORT_LENGTHS, STATE, STORAGE, page_length, tail_limit
 
 rounds = int(sys.argv[1]) if len(sys.argv) > 1 else 25
 rng = random.Random(int(sys.argv[2]) if len(sys.argv) > 2 else 1)
@@ -64,31 +64,33 @@ def state(N):
     if case == 1:
         tail[at] = rng.choice([limit + 1, -limit - 1, 2**63 - 1, -(2**63)])
     rest = [rng.randint(-(2**63), 2**63 - 1) for _ in range(STORAGE - N // 2)]
-    first = rng.choice([0, 48, -1, -N, N + 2**32, -(2**63)]) if case == 2 else N
+    first = rng.choice([0, 48, 144, -1, -N, N + 2**32, -(2**63)]) if case == 2 else N
     whole = [first] + tail + rest
     return whole[:-1] if case == 3 else whole + [7] if case == 4 else whole
 
 
-for t in range(-400, 1300):
+for t in range(-1200, 3000):
     line("C", t, bank.C(t))
 for N in LENGTHS:
     for n in range(N):
         line("W", N, n, bank.W(N, n))
         for k in range(N // 2):
             line("K", N, n, k, bank.K(N, n, k))
+for N in SHORT_LENGTHS:
     for n in range(N // 3):
         for k in range(N // 6):
             line("L", N, n, k, bank.L(N, n, k))
 
-for n in [*range(100), 2**32 + 12, 2**63 + 12, 2**64 - 1]:
-    for length in (0, STATE - 1, STATE, STATE + 1):
+# every n up to two beyond the longest, twice the longest, and numbers that pass for 12 or -1 where upper bits are lost; 37 is the length of a state before P4
+for n in [*range(219), 432, 2**32 + 12, 2**63 + 12, 2**64 - 1]:
+    for length in (0, 37, STATE - 1, STATE, STATE + 1):
         before = [rng.randint(-(2**63), 2**63 - 1) for _ in range(length)]
         line("stream_fresh", n, before, *bank.stream_fresh(n, before))
 
 for _ in range(rounds):
     for N in LENGTHS:
         M = N // 2
-        n = rng.choice([N] * 9 + [0, 11, 48, 2**64 - 1])
+        n = rng.choice([N] * 9 + [0, 11, 48, 144, 2**64 - 1])
         for route in ROUTES:
             x, length = samples(near(N)), near(M)
             line("analyse", route, n, x, length, *bank.analyse(route, n, x, length))

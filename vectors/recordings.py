@@ -3,9 +3,10 @@ from functools import cache
 from operator import mul
 
 import bank
-from bank import HOPS, LENGTHS, ROUTES, analyse_recording, inner, synthesise_recording
+from bank import HOPS, LENGTHS, OFFERED, ROUTES, analyse_recording, inner, synthesise_recording
 
-SMALL = 160
+SMALL = 330
+SHOWN = 160
 MARK = 12345
 MOST, LEAST = 536870912, -536870912
 ABOVE, BELOW = MOST + 1, LEAST - 1
@@ -38,8 +39,8 @@ def quick_U(N, X):
 
 
 def quicken():
-    """Has bank's calls sum over lists and round without fractions: thousands of blocks then take seconds, not minutes."""
-    for b in (2, 2**18, 2**26, 2**28, 2**29, 12 * 2**30, 72 * 2**30):
+    """Has bank's calls sum over lists and round without fractions: thousands of blocks then take a minute or two, not an hour."""
+    for b in (2, 2**18, 2**26, 2**28, 2**29, 12 * 2**30, 216 * 2**30):
         for a in range(-9, 10):
             assert all(nearest(a * b // 2 + i, b) == bank.rnd(a * b // 2 + i, b) for i in (-1, 0, 1))
     for N in LENGTHS:
@@ -82,7 +83,7 @@ def weights(count):
 
 def shown(entries):
     """The entries, or the length and the sum of many."""
-    if len(entries) <= SMALL:
+    if len(entries) <= SHOWN:
         return entries
     positive = [2 * v if v >= 0 else 1 - 2 * v for v in entries]
     return [len(entries), sum(map(mul, positive, weights(len(entries)))) % 2**32]
@@ -164,7 +165,7 @@ def wrong_counts(N, M):
 quicken()
 for N in LENGTHS:
     M = N // 2
-    for route in ROUTES:
+    for route in [route for route in ROUTES if N in OFFERED[route]]:
         for H, span in ((1, 32768), (2, 32768), (3, 32768), (1, 1), (2, 100), (1, 0), (3, 0)):
             noisy(route, N, H, span)
         for H in (1, 2, 3, HOPS):
@@ -177,7 +178,7 @@ for N in LENGTHS:
     for v in (MOST, ABOVE, LEAST, BELOW, 2**31 - 1, -(2**31)):
         for at in (0, M - 1, M, 2 * M, 3 * M - 1, 3 * M):
             synthesised(N, 2, put(at, v)[: 3 * M], [MARK] * (2 * M))
-for N, M in ((0, 0), (11, 5), (48, 24), (ENDLESS, 36)):
+for N, M in ((0, 0), (11, 5), (48, 24), (ENDLESS, 36), (144, 72), (217, 108)):
     for length in LENGTHS:
         every(N, 2, length, 3 * (length // 2))
     lengths(N, 2, 2 * M + 1, 3 * M + 1)

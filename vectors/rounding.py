@@ -179,15 +179,19 @@ def search(N, rng):
     return {stage: Fraction(size, half) for stage, size in found.items()}
 
 
+def hundredths(share):
+    return f"{float(100 * share):.2f}"
+
+
 def percent(share):
-    return f"{float(100 * share):.2f} %"
+    return f"{hundredths(share)} %"
 
 
 def table(results):
-    print("| stage | " + " | ".join(f"N = {N}: bound | found" for N in LENGTHS) + " |")
-    print("|---|" + "---:|---:|" * len(LENGTHS))
+    print("| stage | " + " | ".join(f"N = {N}" for N in LENGTHS) + " |")
+    print("|---|" + "---:|" * len(LENGTHS))
     for row in ROWS:
-        cells = " | ".join(f"{percent(bounds(N)[row])} | {percent(results[N][row])}" for N in LENGTHS)
+        cells = " | ".join(f"{hundredths(results[N][row])} of {hundredths(bounds(N)[row])}" for N in LENGTHS)
         print(f"| {NAMES[row]} | {cells} |")
 
 

@@ -1,13 +1,15 @@
 """Writes what crates/check_stream must print: python3 vectors/stream.py > crates/check_stream/stdout"""
+from functools import reduce
+
 from bank import LENGTHS, STORAGE, K, W, fresh, step, tail_limit
 
-ROOM = 40
+ROOM = 112
+SHOWN = 40
+SHOWN_TAIL = 36
 MARK = 12345
 MOST, LEAST = 536870912, -536870912
 ABOVE, BELOW = MOST + 1, LEAST - 1
-EVERY = 2**ROOM - 1
-EVEN = EVERY // 3
-ODD = 2 * EVEN
+EVEN, ODD, EVERY = 1, 2, 3
 SPANS = (1048576, 6000000, 5000, MOST)
 
 
@@ -15,12 +17,35 @@ def line(word, *fields):
     print(",".join([word] + [str(f) for f in fields]))
 
 
+def total(entries):
+    """A running sum of 31 times the sum before and the entry, modulo 2^32."""
+    return reduce(lambda h, v: (31 * h + 961 * (abs(v) >> 32) + 2 * abs(v) + (v < 0)) % 2**32, entries, 0)
+
+
+def shown(entries):
+    """The entries, or the length and the sum of many."""
+    return entries if len(entries) <= SHOWN else [len(entries), total(entries)]
+
+
+def show_stream(N, tail):
+    line("stream", N, *tail[:SHOWN_TAIL], total(tail[SHOWN_TAIL:]))
+
+
 def offer(stream, x, m, l):
     """A step on the first m entries of x and a buffer of l marks, and the stream to go on with."""
     number, hop, stream = step(stream, x[:m], l)
-    line("out", number, *([MARK] * l if hop is None else hop))
-    line("stream", stream[0], *stream[1])
+    line("out", number, *shown([MARK] * l if hop is None else hop))
+    show_stream(*stream)
     return stream
+
+
+def tail_size(N, M, size):
+    """A step in place on a tail of so many entries: 4 for N first, then 2 for another size than the storage's."""
+    if N in LENGTHS and size == STORAGE:
+        offer((N, [7] * size), noise(9, 1000000), M, M)
+    else:
+        line("out", 2 if N in LENGTHS else 4, *shown([MARK] * M))
+        show_stream(N, [7] * size)
 
 
 def noise(seed, span):
@@ -32,7 +57,7 @@ def noise(seed, span):
 
 
 def loud(signs):
-    return [LEAST if signs >> k & 1 else MOST for k in range(ROOM)]
+    return [LEAST if signs >> k % 2 & 1 else MOST for k in range(ROOM)]
 
 
 def put(x, k, v):
@@ -42,7 +67,7 @@ def put(x, k, v):
 def made(N):
     number, stream = fresh(N)
     line("fresh", N, number)
-    line("stream", stream[0], *stream[1])
+    show_stream(*stream)
 
 
 def refused(stream, x, M, kind):
@@ -88,20 +113,20 @@ def sizes(N, M):
 
 
 def furthest(N):
-    """The signs of two blocks, one after the other, that drive the sample which goes furthest."""
+    """Two blocks, one after the other, that drive the sample which goes furthest."""
 
     def gain(n):
         return W(N, n) * sum(abs(K(N, n, k)) for k in range(N // 2))
 
-    def signs(n):
-        return sum(1 << k for k in range(N // 2) if K(N, n, k) < 0)
+    def block(n):
+        return [LEAST if K(N, n, k) < 0 else MOST for k in range(N // 2)]
 
     n = max(range(N // 2), key=lambda n: gain(N // 2 + n) + gain(n))
-    return signs(N // 2 + n), signs(n)
+    return block(N // 2 + n), block(n)
 
 
 def extremes(N, M):
-    assert furthest(N) == (EVERY % 2**M, ODD % 2**M)
+    assert furthest(N) == (loud(EVERY)[:M], loud(ODD)[:M])
     stream = fresh(N)[1]
     for signs in (0, EVERY, EVERY, ODD, ODD, ODD, 0, EVEN):
         stream = offer(stream, loud(signs), M, M)
@@ -162,11 +187,12 @@ def kept(N, M, v):
 
 for N in LENGTHS:
     made(N)
-for N in (0, 11, 48, 2**64 - 1):
+for N in (0, 11, 48, 2**64 - 1, 107, 144, 217, 432):
     made(N)
     forged(N, 0, 0, 0, 0)
     forged(N, 18, 0, 3, 5)
     forged_first(N, 24, 0)
+    tail_size(N, 18, 36)
 for N in LENGTHS:
     long(N, N // 2)
     beside(N, N // 2)
@@ -175,9 +201,11 @@ for N in LENGTHS:
     for v in (MOST, ABOVE, LEAST, BELOW, 2**31 - 1, -(2**31)):
         limit(N, N // 2, v)
     limit_places(N, N // 2)
+    for size in (0, N // 2, 36, STORAGE - 1, STORAGE + 1, STORAGE):
+        tail_size(N, N // 2, size)
 for N in LENGTHS:
     tails(N, N // 2)
-for N in LENGTHS[:3]:
+for N in LENGTHS[:-1]:
     forged(N, N // 2, 0, N // 2, -(2**63))
     forged(N, N // 2, 0, STORAGE - 1, 2**63 - 1)
     kept(N, N // 2, -(2**63))

@@ -1,5 +1,5 @@
 // The direct analysis of one block, a body for each length: each lends its own tables and calls every leaf by itself, so that the compiler knows every
-// count. The leaves are in `transform`.
+// count. The leaves are in `transform`, the sums from N = 36 on in `block_sums`.
 ghost use mathlib.Core.Path.{_≡_};
 ghost use Prim.Native.Nat.{_/_};
 ghost use lib.Dec.{T};
@@ -46,13 +46,10 @@ fn direct_36(x: &[i16], out: &mut [i32])
 {
     let rise_36 = tables::rise_36();
     let fall_36 = tables::fall_36();
-    let rows_36 = tables::rows_36();
-    let base_36 = tables::base_36();
     let mut z = [0i32; 18];
-    let mut l = [0i32; 18];
     let mut t = [0i64; 18];
     transform::folded_block(36, &rise_36, &fall_36, x, &mut z);
-    transform::sums::sums(36, &z, &rows_36, &base_36, &mut l, &mut t);
+    block_sums::sums_36(&z, &mut t);
     transform::direct_block(36, x, &z, &t, out);
 }
 
@@ -63,14 +60,39 @@ fn direct_72(x: &[i16], out: &mut [i32])
 {
     let rise_72 = tables::rise_72();
     let fall_72 = tables::fall_72();
-    let rows_72 = tables::rows_72();
-    let base_72 = tables::base_72();
     let mut z = [0i32; 36];
-    let mut l = [0i32; 36];
     let mut t = [0i64; 36];
     transform::folded_block(72, &rise_72, &fall_72, x, &mut z);
-    transform::sums::sums(72, &z, &rows_72, &base_72, &mut l, &mut t);
+    block_sums::sums_72(&z, &mut t);
     transform::direct_block(72, x, &z, &t, out);
+}
+
+fn direct_108(x: &[i16], out: &mut [i32])
+    requires { ⌜ length (now x) ≡ 108 ⌝ }
+    requires { ⌜ length (now out) ≡ 54 ⌝ }
+    ensures { λ _. ⌜ now (out .exit) ≡ direct 108 (y 108 (rising 108) (falling 108) (now (x .entry))) ⌝ }
+{
+    let rise_108 = tables::rise_108();
+    let fall_108 = tables::fall_108();
+    let mut z = [0i32; 54];
+    let mut t = [0i64; 54];
+    transform::folded_block(108, &rise_108, &fall_108, x, &mut z);
+    block_sums::sums_108(&z, &mut t);
+    transform::direct_block(108, x, &z, &t, out);
+}
+
+fn direct_216(x: &[i16], out: &mut [i32])
+    requires { ⌜ length (now x) ≡ 216 ⌝ }
+    requires { ⌜ length (now out) ≡ 108 ⌝ }
+    ensures { λ _. ⌜ now (out .exit) ≡ direct 216 (y 216 (rising 216) (falling 216) (now (x .entry))) ⌝ }
+{
+    let rise_216 = tables::rise_216();
+    let fall_216 = tables::fall_216();
+    let mut z = [0i32; 108];
+    let mut t = [0i64; 108];
+    transform::folded_block(216, &rise_216, &fall_216, x, &mut z);
+    block_sums::sums_216(&z, &mut t);
+    transform::direct_block(216, x, &z, &t, out);
 }
 
 // The coefficients of a block by the direct route, for a tabled length: each lends its own tables.
@@ -90,5 +112,13 @@ pub fn analyse(n: usize, x: &[i16], out: &mut [i32])
         direct_36(x, out);
         return;
     }
-    direct_72(x, out);
+    if n == 72 {
+        direct_72(x, out);
+        return;
+    }
+    if n == 108 {
+        direct_108(x, out);
+        return;
+    }
+    direct_216(x, out);
 }

@@ -2,7 +2,7 @@
 use mathlib.Core.Path.{_≡_, refl, sym, _∙_, ap}
 use mathlib.Core.List.{List, [], _∷_, _++_, append-nil}
 use mathlib.Core.Logic.{dite}
-use Prim.Native.Nat.{ℕ, zero, suc, _+_, _≤_, _<_}
+use Prim.Native.Nat.{ℕ, zero, suc, _+_, _*_, _≤_, _<_}
 use native.Mathlib.Nat.{not-suc-le-zero, le-refl}
 use native.Mathlib.Numerals.{add-one}
 use native.Mathlib.Omega.{arith}
@@ -73,6 +73,18 @@ module _ {A : Type 0} (f : ℕ → A) where
       ap (λ (l : List A). getD l k d) (so .is)
       ∙ rw e at (getD-append-add (table k f) (drop k out₀) 0 d)
       ∙ rw n at (getD-drop k out₀ 0 d)
+
+-- three more entries at once
+pub filled-three : {A : Type 0} (f : ℕ → A) (k : ℕ) (out out₀ : List A) (u v w : A) → Filled f (3 * k) out out₀ → 3 * k + 2 < length out → u ≡ f (3 * k) → v ≡ f (3 * k + 1) → w ≡ f (3 * k + 2) →
+    Filled f (3 * (k + 1)) (set (set (set out (3 * k) u) (3 * k + 1) v) (3 * k + 2) w) out₀
+filled-three f k out out₀ u v w so less eu ev ew =
+    let next : 3 * k + 1 + 1 ≡ 3 * k + 2 = omega arith in
+    let last : 3 * k + 2 + 1 ≡ 3 * (k + 1) = omega arith in
+    let first = filled-more f (3 * k) out out₀ u so (omega arith) eu in
+    let second = filled-more f (3 * k + 1) (set out (3 * k) u) out₀ v first (omega (arith, length-set out (3 * k) u)) ev in
+    rw last at
+    (filled-more f (3 * k + 2) (set (set out (3 * k) u) (3 * k + 1) v) out₀ w (rw next at second)
+    (omega (arith, length-set out (3 * k) u, length-set (set out (3 * k) u) (3 * k + 1) v)) ew)
 
 -- ---- a part of a list: m entries from place p
 pub part-length : {A : Type 0} (xs : List A) (p n m : ℕ) → n ≡ m → p + m ≤ length xs → length (take n (drop p xs)) ≡ m

@@ -5,7 +5,10 @@ ghost use Rattle.cosine.specs.Kernels.{tabled};
 use analysis::Route;
 
 // Room for the longest block and for buffers that are too long.
-const ROOM: usize = 80;
+const ROOM: usize = 220;
+
+// The most coefficients that are shown one by one.
+const SHOWN: usize = 80;
 
 // The ends of a sample's range.
 const MOST: i16 = 32767;
@@ -29,19 +32,19 @@ fn told(route: Route, n: usize, x: &[i16], out: &mut [i32]) {
     report::count(x.len());
     let code = filter_bank::analyse(route, n, x, out);
     report::count(code as usize);
-    report::coefficients(out);
+    report::coefficients(out, SHOWN);
 }
 
 // A call on the first l entries of x and a buffer of m marks.
 fn offer(route: Route, n: usize, x: [i16; ROOM], l: usize, m: usize)
-    requires { ⌜ (l ≤ 80) × (m ≤ 80) ⌝ }
+    requires { ⌜ (l ≤ 220) × (m ≤ 220) ⌝ }
 {
     let mut out = [12345; ROOM];
     told(route, n, &x[..l], &mut out[..m]);
 }
 
 fn both(n: usize, x: [i16; ROOM], l: usize, m: usize)
-    requires { ⌜ (l ≤ 80) × (m ≤ 80) ⌝ }
+    requires { ⌜ (l ≤ 220) × (m ≤ 220) ⌝ }
 {
     offer(Route::Direct, n, x, l, m);
     offer(Route::Short, n, x, l, m);
@@ -49,7 +52,7 @@ fn both(n: usize, x: [i16; ROOM], l: usize, m: usize)
 
 // A block of the stated lengths.
 fn block(n: usize, x: [i16; ROOM])
-    requires { ⌜ n ≤ 72 ⌝ }
+    requires { ⌜ n ≤ 216 ⌝ }
 {
     both(n, x, n, n / 2);
 }
@@ -96,7 +99,7 @@ fn alternating(first: i16, second: i16) -> [i16; ROOM] {
 
 // The sample v at place i, and silence.
 fn impulse(i: usize, v: i16) -> [i16; ROOM]
-    requires { ⌜ i < 80 ⌝ }
+    requires { ⌜ i < 220 ⌝ }
 {
     let mut x = [0; ROOM];
     x[i] = v;
@@ -105,7 +108,7 @@ fn impulse(i: usize, v: i16) -> [i16; ROOM]
 
 // `high` where the kernel of coefficient k is above 0 and `low` elsewhere: no other signs drive it further.
 fn driven(n: usize, k: usize, low: i16, high: i16) -> [i16; ROOM]
-    requires { ⌜ T (tabled n) × (n ≤ 72) × (k < n / 2) ⌝ }
+    requires { ⌜ T (tabled n) × (n ≤ 216) × (k < n / 2) ⌝ }
 {
     let mut x = [0; ROOM];
     for i in 0..n {
@@ -120,7 +123,7 @@ fn driven(n: usize, k: usize, low: i16, high: i16) -> [i16; ROOM]
 
 // Blocks of two values: each alone, in turn either way, and one of them at every place.
 fn steadies(n: usize, low: i16, high: i16)
-    requires { ⌜ n ≤ 72 ⌝ }
+    requires { ⌜ n ≤ 216 ⌝ }
 {
     block(n, steady(low));
     block(n, steady(high));
@@ -129,7 +132,7 @@ fn steadies(n: usize, low: i16, high: i16)
 }
 
 fn impulses(n: usize, low: i16, high: i16)
-    requires { ⌜ n ≤ 72 ⌝ }
+    requires { ⌜ n ≤ 216 ⌝ }
 {
     for i in 0..n {
         block(n, impulse(i, low));
@@ -139,7 +142,7 @@ fn impulses(n: usize, low: i16, high: i16)
 
 // Every coefficient driven as far as it goes, either way.
 fn drives(n: usize, low: i16, high: i16)
-    requires { ⌜ T (tabled n) × (n ≤ 72) ⌝ }
+    requires { ⌜ T (tabled n) × (n ≤ 216) ⌝ }
 {
     for k in 0..n / 2 {
         block(n, driven(n, k, low, high));
@@ -148,7 +151,7 @@ fn drives(n: usize, low: i16, high: i16)
 }
 
 fn noises(n: usize)
-    requires { ⌜ n ≤ 72 ⌝ }
+    requires { ⌜ n ≤ 216 ⌝ }
 {
     for b in 0..BLOCKS {
         block(n, noise((100 * n + b) as u64, span(b)));
@@ -157,7 +160,7 @@ fn noises(n: usize)
 
 // The loudest blocks and the quiet ones.
 fn two_values(n: usize, low: i16, high: i16)
-    requires { ⌜ T (tabled n) × (n ≤ 72) ⌝ }
+    requires { ⌜ T (tabled n) × (n ≤ 216) ⌝ }
 {
     steadies(n, low, high);
     impulses(n, low, high);
@@ -166,7 +169,7 @@ fn two_values(n: usize, low: i16, high: i16)
 
 // Buffers that are longer, shorter, empty, or one in place of the other.
 fn wrong_lengths(n: usize, m: usize)
-    requires { ⌜ (1 ≤ n) × (n ≤ 72) × (1 ≤ m) × (m ≤ 72) ⌝ }
+    requires { ⌜ (1 ≤ n) × (n ≤ 216) × (1 ≤ m) × (m ≤ 108) ⌝ }
 {
     let x = noise(n as u64, 32768);
     both(n, x, n - 1, m);
@@ -190,11 +193,13 @@ fn named(n: usize) {
     both(n, x, 24, 12);
     both(n, x, 36, 18);
     both(n, x, 72, 36);
+    both(n, x, 108, 54);
+    both(n, x, 216, 108);
 }
 
 // A length that is not tabled: with buffers of every length, with its own or others, and with none.
 fn untabled(n: usize, l: usize, m: usize)
-    requires { ⌜ (l ≤ 80) × (m ≤ 80) ⌝ }
+    requires { ⌜ (l ≤ 220) × (m ≤ 220) ⌝ }
 {
     named(n);
     both(n, noise(6, 32768), l, m);
@@ -203,7 +208,7 @@ fn untabled(n: usize, l: usize, m: usize)
 }
 
 fn offered(n: usize, m: usize)
-    requires { ⌜ T (tabled n) × (1 ≤ n) × (n ≤ 72) × (1 ≤ m) × (m ≤ 72) ⌝ }
+    requires { ⌜ T (tabled n) × (1 ≤ n) × (n ≤ 216) × (1 ≤ m) × (m ≤ 108) ⌝ }
 {
     block(n, steady(0));
     two_values(n, LEAST, MOST);
@@ -218,9 +223,15 @@ fn main() {
     offered(24, 12);
     offered(36, 18);
     offered(72, 36);
+    offered(108, 54);
+    offered(216, 108);
     untabled(0, 1, 1);
     untabled(11, 11, 5);
     untabled(13, 13, 6);
     untabled(48, 48, 24);
     untabled(18446744073709551615, 80, 40);
+    untabled(107, 107, 53);
+    untabled(144, 144, 72);
+    untabled(217, 217, 108);
+    untabled(432, 216, 108);
 }

@@ -108,7 +108,7 @@ fn put_end(buf: &mut [u8], at: usize, i: usize, m: usize) -> usize
 
 // A hop of m samples.
 fn put_hop(buf: &mut [u8], from: usize, is_wide: bool, h: usize, m: usize) -> usize
-    requires { ⌜ (from ≤ length (now buf)) × (h ≤ 6000) × (m ≤ 36) ⌝ }
+    requires { ⌜ (from ≤ length (now buf)) × (h ≤ 6000) × (m ≤ 109) ⌝ }
     ensures { λ r. ⌜ r ≤ length (now (buf .exit)) ⌝ }
 {
     let mut at = from;
@@ -120,7 +120,7 @@ fn put_hop(buf: &mut [u8], from: usize, is_wide: bool, h: usize, m: usize) -> us
 }
 
 fn put_hops(buf: &mut [u8], from: usize, is_wide: bool, hops: usize, m: usize) -> usize
-    requires { ⌜ (from ≤ length (now buf)) × (hops ≤ 6000) × (m ≤ 36) ⌝ }
+    requires { ⌜ (from ≤ length (now buf)) × (hops ≤ 6000) × (m ≤ 108) ⌝ }
     ensures { λ r. ⌜ r ≤ length (now (buf .exit)) ⌝ }
 {
     let mut at = from;
@@ -132,7 +132,7 @@ fn put_hops(buf: &mut [u8], from: usize, is_wide: bool, hops: usize, m: usize) -
 
 // A listing of hops: whole, without its last byte, and with one byte more.
 fn long(first: &[u8], is_wide: bool, hops: usize, m: usize)
-    requires { ⌜ (hops ≤ 6000) × (m ≤ 36) ⌝ }
+    requires { ⌜ (hops ≤ 6000) × (m ≤ 108) ⌝ }
 {
     let mut buf = room();
     let start = put(&mut buf, 0, first);
@@ -199,6 +199,9 @@ fn first_lines_refused() {
     show(b"1e1\n");
     show(b"\xc2\xb912\n");
     show(b"012\n1,2,3,4,5\n");
+    show(b"0108\n");
+    show(b"216");
+    show(b"216,\n");
 }
 
 // A length that is well-formed and not tabled: 1, whatever stands behind it.
@@ -213,6 +216,11 @@ fn lengths_refused() {
     show(b"65548\n");
     show(b"11\nx");
     show(b"13\n\n\n");
+    show(b"107\n");
+    show(b"144\n");
+    show(b"217\n");
+    show(b"432\n");
+    show(b"65752\n");
 }
 
 // A hop that is none, in line 2 and behind a good one: 5.
@@ -259,7 +267,7 @@ fn hops_refused() {
 
 // Listings that are taken, of none to five hops.
 fn short(first: &[u8], m: usize)
-    requires { ⌜ m ≤ 36 ⌝ }
+    requires { ⌜ m ≤ 108 ⌝ }
 {
     for hops in 0..6 {
         let mut buf = room();
@@ -269,7 +277,27 @@ fn short(first: &[u8], m: usize)
     }
 }
 
-// As many hops as fit, in 65,536 bytes, and hops of long samples.
+// A hop of another count of samples behind a good one: 5.
+fn miscounted(first: &[u8], m: usize, count: usize)
+    requires { ⌜ (m ≤ 108) × (count ≤ 109) ⌝ }
+{
+    let mut buf = room();
+    let at = put(&mut buf, 0, first);
+    let at = put_hop(&mut buf, at, true, 0, m);
+    let end = put_hop(&mut buf, at, true, 1, count);
+    show(&buf[..end]);
+}
+
+// The hops of a length: a few, and one with a sample too few or too many.
+fn counts(first: &[u8], m: usize)
+    requires { ⌜ (1 ≤ m) × (m ≤ 108) ⌝ }
+{
+    short(first, m);
+    miscounted(first, m, m - 1);
+    miscounted(first, m, m + 1);
+}
+
+// As many hops as fit, in 65,536 bytes.
 fn longest() {
     long(b"12\n10,0,0,0,0,0\n", false, 5460, 6);
     long(
@@ -290,10 +318,28 @@ fn longest() {
         909,
         36,
     );
+    long(
+        b"108\n100,100,100,100,100,100,100,100,100,100,100,100,100,100,100,100,100,100,100,100,100,100,100,100,100,100,100,100,100,100,100,100,100,100,100,100,100,100,100,100,100,100,0,0,0,0,0,0,0,0,0,0,0,0\n",
+        false,
+        605,
+        54,
+    );
+    long(
+        b"216\n10,10,10,10,10,10,10,10,10,10,10,10,10,10,10,10,10,10,10,10,10,10,10,10,10,10,10,10,10,10,10,10,10,10,10,10,10,10,10,10,10,10,10,10,10,10,10,10,10,10,10,10,10,10,10,10,10,10,10,10,10,10,10,10,10,10,10,10,10,10,10,10,10,10,10,10,10,10,10,10,10,10,10,10,0,0,0,0,0,0,0,0,0,0,0,0,0,0,0,0,0,0,0,0,0,0,0,0\n",
+        false,
+        302,
+        108,
+    );
+}
+
+// Hops of long samples.
+fn widest() {
     long(b"12\n", true, 2000, 6);
     long(b"24\n", true, 1000, 12);
     long(b"36\n", true, 700, 18);
     long(b"72\n", true, 350, 36);
+    long(b"108\n", true, 230, 54);
+    long(b"216\n", true, 115, 108);
 }
 
 fn main() {
@@ -301,11 +347,14 @@ fn main() {
     first_lines_refused();
     lengths_refused();
     hops_refused();
-    short(b"12\n", 6);
-    short(b"24\n", 12);
-    short(b"36\n", 18);
-    short(b"72\n", 36);
+    counts(b"12\n", 6);
+    counts(b"24\n", 12);
+    counts(b"36\n", 18);
+    counts(b"72\n", 36);
+    counts(b"108\n", 54);
+    counts(b"216\n", 108);
     longest();
+    widest();
     sizes(b"");
     sizes(b"12\n");
     sizes(b"11\n");

@@ -8,16 +8,17 @@ use analysis::Route;
 const HOPS: usize = 4095;
 
 // Room for the coefficients of a few hops of the longest length, for their page, and for buffers that are too long.
-const SMALL: usize = 160;
+const SMALL: usize = 440;
 
-const PAGE: usize = 2048;
+const PAGE: usize = 6000;
 
-// Room for the coefficients and the page of one hop too many at the shortest length.
+// Room for the coefficients and the page of one hop too many at the shortest length, and so of 454 and 226 hops at the two longest: the most there
+// take 2,985,984 and 5,971,968 bytes, and an array of a million is not proved.
 const LONG: usize = 24582;
 
 const LONG_PAGE: usize = 331857;
 
-// The longest page that is shown whole: two blocks of the longest length.
+// The longest page that is shown whole: two blocks of N = 72.
 const SHOWN: usize = 972;
 
 // What a buffer holds before a call.
@@ -129,7 +130,7 @@ fn fill(c: &mut [i32], kind: Kind, seed: u64)
 
 // A page of the first l of c, in a buffer of p marks.
 fn offer(n: usize, hops: usize, c: [i32; SMALL], l: usize, p: usize)
-    requires { ⌜ (l ≤ 160) × (p ≤ 2048) ⌝ }
+    requires { ⌜ (l ≤ 440) × (p ≤ 6000) ⌝ }
 {
     let mut out = [MARK; PAGE];
     printed(n, hops, &c[..l], &mut out[..p]);
@@ -137,7 +138,7 @@ fn offer(n: usize, hops: usize, c: [i32; SMALL], l: usize, p: usize)
 
 // A page of coefficients of a kind.
 fn made_up(kind: Kind, n: usize, hops: usize, l: usize, p: usize)
-    requires { ⌜ (n ≤ 72) × (hops ≤ 3) × (l ≤ 160) × (p ≤ 2048) ⌝ }
+    requires { ⌜ (n ≤ 216) × (hops ≤ 3) × (l ≤ 440) × (p ≤ 6000) ⌝ }
 {
     let mut c = [0; SMALL];
     fill(&mut c, kind, (n + hops) as u64);
@@ -147,16 +148,16 @@ fn made_up(kind: Kind, n: usize, hops: usize, l: usize, p: usize)
 // Samples of noise; of span 0 they are as loud as can be.
 fn noise(seed: u64, span: u64) -> [i16; SMALL]
     requires { ⌜ (seed < 2 ^ 32) × (span ≤ 32768) ⌝ }
-    ensures { λ r. ⌜ 160 ≡ length r ⌝ }
+    ensures { λ r. ⌜ 440 ≡ length r ⌝ }
 {
     let mut x = [0; SMALL];
     report::noise::fill(&mut x, seed, span);
     x
 }
 
-// A page of the coefficients of a recording, the first s samples of x.
+// A page of the coefficients of a recording, the first s samples of x; of marks where the route is not offered.
 fn recorded(route: Route, n: usize, hops: usize, x: [i16; SMALL], s: usize, l: usize, p: usize)
-    requires { ⌜ (s ≤ 160) × (l ≤ 160) × (p ≤ 2048) ⌝ }
+    requires { ⌜ (s ≤ 440) × (l ≤ 440) × (p ≤ 6000) ⌝ }
 {
     let mut c = [12345; SMALL];
     filter_bank::analyse_recording(route, n, hops, &x[..s], &mut c[..l]);
@@ -165,7 +166,7 @@ fn recorded(route: Route, n: usize, hops: usize, x: [i16; SMALL], s: usize, l: u
 
 // Pages of l coefficients of each kind, and of those of s samples.
 fn pages(n: usize, hops: usize, s: usize, l: usize, p: usize)
-    requires { ⌜ (n ≤ 72) × (hops ≤ 3) × (s ≤ 160) × (l ≤ 160) × (p ≤ 2048) ⌝ }
+    requires { ⌜ (n ≤ 216) × (hops ≤ 3) × (s ≤ 440) × (l ≤ 440) × (p ≤ 6000) ⌝ }
 {
     made_up(Kind::Zero, n, hops, l, p);
     made_up(Kind::Loud, n, hops, l, p);
@@ -188,7 +189,7 @@ fn pages(n: usize, hops: usize, s: usize, l: usize, p: usize)
 
 // Coefficients anywhere in their range, with v in one place.
 fn with(at: usize, v: i32) -> [i32; SMALL]
-    requires { ⌜ at < 160 ⌝ }
+    requires { ⌜ at < 440 ⌝ }
 {
     let mut c = [0; SMALL];
     fill(&mut c, Kind::Wide, 9);
@@ -198,7 +199,7 @@ fn with(at: usize, v: i32) -> [i32; SMALL]
 
 // Coefficients in their range, and with the first beyond it.
 fn every(n: usize, hops: usize, l: usize, p: usize)
-    requires { ⌜ (l ≤ 160) × (p ≤ 2048) ⌝ }
+    requires { ⌜ (l ≤ 440) × (p ≤ 6000) ⌝ }
 {
     offer(n, hops, with(0, 1), l, p);
     offer(n, hops, with(0, BELOW), l, p);
@@ -206,7 +207,7 @@ fn every(n: usize, hops: usize, l: usize, p: usize)
 
 // Coefficients and bytes that are one fewer, one more, none, or of another line or block; the stated lengths last.
 fn lengths(n: usize, hops: usize, l: usize, p: usize)
-    requires { ⌜ (6 ≤ l) × (l < 154) × (81 ≤ p) × (p < 1967) ⌝ }
+    requires { ⌜ (6 ≤ l) × (l ≤ 434) × (81 ≤ p) × (p ≤ 5919) ⌝ }
 {
     every(n, hops, l - 1, p);
     every(n, hops, l + 1, p);
@@ -224,7 +225,7 @@ fn lengths(n: usize, hops: usize, l: usize, p: usize)
 
 // A number of hops that is not taken: with the buffers of one hop, of one block, and with none.
 fn wrong_count(n: usize, m: usize, w: usize, hops: usize)
-    requires { ⌜ (m ≤ 36) × (w ≤ 6) ⌝ }
+    requires { ⌜ (m ≤ 108) × (w ≤ 18) ⌝ }
 {
     every(n, hops, 2 * m, 162 * w);
     every(n, hops, m, 81 * w);
@@ -233,7 +234,7 @@ fn wrong_count(n: usize, m: usize, w: usize, hops: usize)
 
 // None, one too many, and numbers that pass for 0 or 1 where upper bits are lost: as they are, with 1 added or multiplied.
 fn wrong_counts(n: usize, m: usize, w: usize)
-    requires { ⌜ (m ≤ 36) × (w ≤ 6) ⌝ }
+    requires { ⌜ (m ≤ 108) × (w ≤ 18) ⌝ }
 {
     wrong_count(n, m, w, 0);
     wrong_count(n, m, w, HOPS + 1);
@@ -245,7 +246,7 @@ fn wrong_counts(n: usize, m: usize, w: usize)
 
 // The coefficient v at the ends of the first block and of the last, of two, and just past them, where it is no cause.
 fn limit(n: usize, m: usize, w: usize, v: i32)
-    requires { ⌜ (1 ≤ m) × (m ≤ 36) × (w ≤ 6) ⌝ }
+    requires { ⌜ (1 ≤ m) × (m ≤ 108) × (w ≤ 18) ⌝ }
 {
     offer(n, 1, with(0, v), 2 * m, 162 * w);
     offer(n, 1, with(m - 1, v), 2 * m, 162 * w);
@@ -256,7 +257,7 @@ fn limit(n: usize, m: usize, w: usize, v: i32)
 
 // Coefficients that are just in their range, just beyond it, and far beyond.
 fn limits(n: usize, m: usize, w: usize)
-    requires { ⌜ (1 ≤ m) × (m ≤ 36) × (w ≤ 6) ⌝ }
+    requires { ⌜ (1 ≤ m) × (m ≤ 108) × (w ≤ 18) ⌝ }
 {
     limit(n, m, w, MOST);
     limit(n, m, w, ABOVE);
@@ -268,7 +269,7 @@ fn limits(n: usize, m: usize, w: usize)
 
 // Pages of a length, and what is refused at it.
 fn tabled(n: usize, m: usize, w: usize)
-    requires { ⌜ (n ≤ 72) × (6 ≤ m) × (m ≤ 36) × (1 ≤ w) × (w ≤ 6) ⌝ }
+    requires { ⌜ (n ≤ 216) × (6 ≤ m) × (m ≤ 108) × (1 ≤ w) × (w ≤ 18) ⌝ }
 {
     pages(n, 1, m, 2 * m, 162 * w);
     pages(n, 2, 2 * m, 3 * m, 243 * w);
@@ -281,12 +282,14 @@ fn tabled(n: usize, m: usize, w: usize)
 
 // A length that is not tabled: with the buffers of one hop of every length that is, of its own, and with everything else wrong too.
 fn untabled(n: usize, m: usize, w: usize)
-    requires { ⌜ (m ≤ 36) × (w ≤ 6) ⌝ }
+    requires { ⌜ (m ≤ 108) × (w ≤ 18) ⌝ }
 {
     every(n, 1, 12, 162);
     every(n, 1, 24, 324);
     every(n, 1, 36, 486);
     every(n, 1, 72, 972);
+    every(n, 1, 108, 1458);
+    every(n, 1, 216, 2916);
     lengths(n, 1, 2 * m + 6, 162 * w + 81);
     wrong_counts(n, m, w);
 }
@@ -308,19 +311,22 @@ fn many(at: usize, v: i32) -> [i32; LONG]
 }
 
 // A page of the first l of c, in a buffer of p marks.
-fn long(hops: usize, c: [i32; LONG], l: usize, p: usize)
+fn long(n: usize, hops: usize, c: [i32; LONG], l: usize, p: usize)
     requires { ⌜ (l ≤ 24582) × (p ≤ 331857) ⌝ }
 {
     let mut out = marks();
-    printed(12, hops, &c[..l], &mut out[..p]);
+    printed(n, hops, &c[..l], &mut out[..p]);
 }
 
-// The most hops: in range, with the last coefficient beyond it, and with one just past the last; and one hop more.
+// The most hops: in range, with the last coefficient beyond it, and with one just past the last; and one hop more. At the two longest lengths the most
+// that there is room for.
 fn longest() {
-    long(HOPS, many(24575, 7), 24576, 331776);
-    long(HOPS, many(24575, ABOVE), 24576, 331776);
-    long(HOPS, many(24576, ABOVE), 24576, 331776);
-    long(HOPS + 1, many(24581, 7), 24582, 331857);
+    long(12, HOPS, many(24575, 7), 24576, 331776);
+    long(12, HOPS, many(24575, ABOVE), 24576, 331776);
+    long(12, HOPS, many(24576, ABOVE), 24576, 331776);
+    long(12, HOPS + 1, many(24581, 7), 24582, 331857);
+    long(108, 454, many(0, 7), 24570, 331695);
+    long(216, 226, many(0, 7), 24516, 330966);
 }
 
 fn main() {
@@ -328,9 +334,13 @@ fn main() {
     tabled(24, 12, 2);
     tabled(36, 18, 3);
     tabled(72, 36, 6);
+    tabled(108, 54, 9);
+    tabled(216, 108, 18);
     untabled(0, 0, 0);
     untabled(11, 5, 0);
     untabled(48, 24, 4);
     untabled(18446744073709551615, 36, 6);
+    untabled(144, 72, 12);
+    untabled(217, 108, 18);
     longest();
 }

@@ -8,10 +8,13 @@ use analysis::Route;
 const HOPS: usize = 4095;
 
 // Room for the coefficients of 4,096 hops of the longest length, one more than are taken.
-const ROOM: usize = 147492;
+const ROOM: usize = 442476;
 
 // Room for a few hops of the longest length and for buffers that are too long.
-const SMALL: usize = 160;
+const SMALL: usize = 330;
+
+// The most entries of a buffer that are shown one by one.
+const SHOWN: usize = 160;
 
 // What a buffer holds before a call.
 const MARK: i16 = 12345;
@@ -65,7 +68,7 @@ fn analysed(route: Route, n: usize, hops: usize, x: &[i16], out: &mut [i32]) {
     report::count(x.len());
     let code = filter_bank::analyse_recording(route, n, hops, x, out);
     report::count(code as usize);
-    report::coefficients(out);
+    report::coefficients(out, SHOWN);
 }
 
 fn synthesised(n: usize, hops: usize, c: &[i32], out: &mut [i16]) {
@@ -75,7 +78,7 @@ fn synthesised(n: usize, hops: usize, c: &[i32], out: &mut [i16]) {
     report::count(c.len());
     let code = filter_bank::synthesise_recording(n, hops, c, out);
     report::count(code as usize);
-    report::samples(out);
+    report::samples(out, SHOWN);
 }
 
 // The inner part of a buffer.
@@ -85,7 +88,7 @@ fn viewed(n: usize, hops: usize, out: &[i16]) {
     report::count(hops);
     let part = filter_bank::inner(n, hops, out);
     report::count(part.len());
-    report::samples(part);
+    report::samples(part, SHOWN);
 }
 
 fn unlike(v: i16, w: i16) -> usize
@@ -152,59 +155,62 @@ fn there_and_back(route: Route, n: usize, hops: usize, x: &[i16], c: &mut [i32],
     back(n, hops, x, c, out);
 }
 
-// Large buffers of marks.
-fn marks() -> [i16; ROOM]
-    ensures { λ r. ⌜ 147492 ≡ length r ⌝ }
-{
-    [MARK; ROOM]
-}
-
-fn coefficient_marks() -> [i32; ROOM]
-    ensures { λ r. ⌜ 147492 ≡ length r ⌝ }
-{
-    [12345; ROOM]
-}
-
 // A recording of the first l samples of x, and room for m coefficients.
-fn buffered(route: Route, n: usize, hops: usize, x: [i16; ROOM], l: usize, m: usize)
-    requires { ⌜ (l ≤ 147492) × (m ≤ 147492) ⌝ }
+fn recorded(route: Route, n: usize, hops: usize, x: &[i16], l: usize, m: usize)
+    requires { ⌜ (l ≤ length (now x)) × (l ≤ 442476) × (m ≤ 442476) ⌝ }
 {
-    let mut c = coefficient_marks();
-    let mut out = marks();
+    let mut c = [12345; ROOM];
+    let mut out = [MARK; ROOM];
     there_and_back(route, n, hops, &x[..l], &mut c[..m], &mut out[..l]);
 }
 
-// The same, in buffers of the stated lengths.
-fn recorded(route: Route, n: usize, hops: usize, x: [i16; ROOM])
-    requires { ⌜ (n ≤ 72) × (hops ≤ 4096) ⌝ }
+// Silence, of which a recording is made.
+fn silence() -> [i16; ROOM]
+    ensures { λ r. ⌜ 442476 ≡ length r ⌝ }
 {
-    let m = n / 2;
-    let count = hops * m;
-    buffered(route, n, hops, x, count, count + m);
+    [0; ROOM]
+}
+
+// The number of samples of a recording.
+fn samples(n: usize, hops: usize) -> usize
+    requires { ⌜ (n ≤ 216) × (hops ≤ 4096) ⌝ }
+    ensures { λ r. ⌜ r ≤ 442368 ⌝ }
+{
+    hops * (n / 2)
 }
 
 // A recording of noise.
 fn noisy(route: Route, n: usize, hops: usize, span: u64)
-    requires { ⌜ (n ≤ 72) × (hops ≤ 4096) × (span ≤ 32768) ⌝ }
+    requires { ⌜ (n ≤ 216) × (hops ≤ 4096) × (span ≤ 32768) ⌝ }
 {
-    let mut x = marks();
+    let l = samples(n, hops);
+    let mut x = silence();
     report::noise::fill(&mut x, (n + hops) as u64, span);
-    recorded(route, n, hops, x);
+    recorded(route, n, hops, &x, l, l + n / 2);
 }
 
 // Silence but for a click in the first sample and one in the last.
-fn clicked(route: Route, n: usize, hops: usize, last: usize)
-    requires { ⌜ (n ≤ 72) × (hops ≤ 4096) × (last < 147492) ⌝ }
+fn clicks(last: usize) -> [i16; ROOM]
+    requires { ⌜ last < 442476 ⌝ }
+    ensures { λ r. ⌜ 442476 ≡ length r ⌝ }
 {
-    let mut x = [0; ROOM];
+    let mut x = silence();
     x[0] = 32767;
     x[last] = -32768;
-    recorded(route, n, hops, x);
+    x
+}
+
+fn clicked(route: Route, n: usize, hops: usize, last: usize)
+    requires { ⌜ (n ≤ 216) × (hops ≤ 4096) × (last < 442476) ⌝ }
+{
+    let l = samples(n, hops);
+    let x = clicks(last);
+    recorded(route, n, hops, &x, l, l + n / 2);
 }
 
 // Recordings of few hops, from quiet to the loudest, of the most, and of none and one too many.
 fn recordings(route: Route, n: usize, m: usize)
-    requires { ⌜ (n ≤ 72) × (1 ≤ m) × (m ≤ 36) ⌝ }
+    requires { ⌜ (n ≤ 216) × (1 ≤ m) × (m ≤ 108) ⌝ }
 {
     noisy(route, n, 1, 32768);
     noisy(route, n, 2, 32768);
@@ -224,7 +230,7 @@ fn recordings(route: Route, n: usize, m: usize)
 
 // A few hops of noise.
 fn noise() -> [i16; SMALL]
-    ensures { λ r. ⌜ 160 ≡ length r ⌝ }
+    ensures { λ r. ⌜ 330 ≡ length r ⌝ }
 {
     let mut x = [0; SMALL];
     report::noise::fill(&mut x, 5, 32768);
@@ -233,7 +239,7 @@ fn noise() -> [i16; SMALL]
 
 // Coefficients of noise with v in one place.
 fn with(at: usize, v: i32) -> [i32; SMALL]
-    requires { ⌜ at < 160 ⌝ }
+    requires { ⌜ at < 330 ⌝ }
 {
     let mut c = [0; SMALL];
     change(&mut c, 9, 30000);
@@ -243,7 +249,7 @@ fn with(at: usize, v: i32) -> [i32; SMALL]
 
 // A call by a route on l samples and a buffer of m marks.
 fn offer(route: Route, n: usize, hops: usize, l: usize, m: usize)
-    requires { ⌜ (l ≤ 160) × (m ≤ 160) ⌝ }
+    requires { ⌜ (l ≤ 330) × (m ≤ 330) ⌝ }
 {
     let x = noise();
     let mut out = [12345; SMALL];
@@ -252,7 +258,7 @@ fn offer(route: Route, n: usize, hops: usize, l: usize, m: usize)
 
 // A call on m coefficients and a buffer of l marks.
 fn play(n: usize, hops: usize, c: [i32; SMALL], m: usize, l: usize)
-    requires { ⌜ (l ≤ 160) × (m ≤ 160) ⌝ }
+    requires { ⌜ (l ≤ 330) × (m ≤ 330) ⌝ }
 {
     let mut out = [MARK; SMALL];
     synthesised(n, hops, &c[..m], &mut out[..l]);
@@ -260,7 +266,7 @@ fn play(n: usize, hops: usize, c: [i32; SMALL], m: usize, l: usize)
 
 // The inner part of a buffer of l samples.
 fn part(n: usize, hops: usize, l: usize)
-    requires { ⌜ l ≤ 160 ⌝ }
+    requires { ⌜ l ≤ 330 ⌝ }
 {
     let out = noise();
     viewed(n, hops, &out[..l]);
@@ -268,7 +274,7 @@ fn part(n: usize, hops: usize, l: usize)
 
 // Every call on l samples and m coefficients, these in range and with one that is not.
 fn every(n: usize, hops: usize, l: usize, m: usize)
-    requires { ⌜ (l ≤ 160) × (m ≤ 160) ⌝ }
+    requires { ⌜ (l ≤ 330) × (m ≤ 330) ⌝ }
 {
     offer(Route::Direct, n, hops, l, m);
     offer(Route::Short, n, hops, l, m);
@@ -279,7 +285,7 @@ fn every(n: usize, hops: usize, l: usize, m: usize)
 
 // Samples and coefficients that are one fewer, one more, none, or one in place of the other; the stated lengths last.
 fn lengths(n: usize, hops: usize, l: usize, m: usize)
-    requires { ⌜ (1 ≤ l) × (l < 160) × (1 ≤ m) × (m < 160) ⌝ }
+    requires { ⌜ (1 ≤ l) × (l < 330) × (1 ≤ m) × (m < 330) ⌝ }
 {
     every(n, hops, l - 1, m);
     every(n, hops, l + 1, m);
@@ -298,7 +304,7 @@ fn lengths(n: usize, hops: usize, l: usize, m: usize)
 
 // A number of hops that is not taken: with buffers of one hop, of none, and with no buffers.
 fn wrong_count(n: usize, m: usize, hops: usize)
-    requires { ⌜ m ≤ 36 ⌝ }
+    requires { ⌜ m ≤ 108 ⌝ }
 {
     every(n, hops, m, 2 * m);
     every(n, hops, 0, m);
@@ -307,7 +313,7 @@ fn wrong_count(n: usize, m: usize, hops: usize)
 
 // None, one too many, and numbers that pass for 0 or 1 where upper bits are lost: as they are, with 1 added or times M.
 fn wrong_counts(n: usize, m: usize)
-    requires { ⌜ m ≤ 36 ⌝ }
+    requires { ⌜ m ≤ 108 ⌝ }
 {
     wrong_count(n, m, 0);
     wrong_count(n, m, HOPS + 1);
@@ -319,7 +325,7 @@ fn wrong_counts(n: usize, m: usize)
 
 // The coefficient v at the ends of the first block and of the last, of three, between them, and just past them, where it is no cause.
 fn limit(n: usize, m: usize, v: i32)
-    requires { ⌜ (1 ≤ m) × (m ≤ 36) ⌝ }
+    requires { ⌜ (1 ≤ m) × (m ≤ 108) ⌝ }
 {
     play(n, 2, with(0, v), 3 * m, 2 * m);
     play(n, 2, with(m - 1, v), 3 * m, 2 * m);
@@ -330,7 +336,7 @@ fn limit(n: usize, m: usize, v: i32)
 }
 
 fn limits(n: usize, m: usize)
-    requires { ⌜ (1 ≤ m) × (m ≤ 36) ⌝ }
+    requires { ⌜ (1 ≤ m) × (m ≤ 108) ⌝ }
 {
     limit(n, m, MOST);
     limit(n, m, ABOVE);
@@ -340,37 +346,57 @@ fn limits(n: usize, m: usize)
     limit(n, m, -2147483648);
 }
 
-// Recordings of a length, and what is refused at it.
-fn tabled(n: usize, m: usize)
-    requires { ⌜ (n ≤ 72) × (1 ≤ m) × (m ≤ 36) ⌝ }
+// What is refused at a length.
+fn refused(n: usize, m: usize)
+    requires { ⌜ (1 ≤ m) × (m ≤ 108) ⌝ }
 {
-    recordings(Route::Direct, n, m);
-    recordings(Route::Short, n, m);
     lengths(n, 1, m, 2 * m);
     lengths(n, 2, 2 * m, 3 * m);
     wrong_counts(n, m);
     limits(n, m);
 }
 
+// A length by the direct route, and by both.
+fn tabled(n: usize, m: usize)
+    requires { ⌜ (n ≤ 216) × (1 ≤ m) × (m ≤ 108) ⌝ }
+{
+    recordings(Route::Direct, n, m);
+    refused(n, m);
+}
+
+fn tabled_twice(n: usize, m: usize)
+    requires { ⌜ (n ≤ 216) × (1 ≤ m) × (m ≤ 108) ⌝ }
+{
+    recordings(Route::Direct, n, m);
+    recordings(Route::Short, n, m);
+    refused(n, m);
+}
+
 // A length that is not tabled: with the buffers of two hops of every length that is, with its own, and with everything else wrong too.
 fn untabled(n: usize, m: usize)
-    requires { ⌜ m ≤ 36 ⌝ }
+    requires { ⌜ m ≤ 108 ⌝ }
 {
     every(n, 2, 12, 18);
     every(n, 2, 24, 36);
     every(n, 2, 36, 54);
     every(n, 2, 72, 108);
+    every(n, 2, 108, 162);
+    every(n, 2, 216, 324);
     lengths(n, 2, 2 * m + 1, 3 * m + 1);
     wrong_counts(n, m);
 }
 
 fn main() {
-    tabled(12, 6);
-    tabled(24, 12);
-    tabled(36, 18);
-    tabled(72, 36);
+    tabled_twice(12, 6);
+    tabled_twice(24, 12);
+    tabled_twice(36, 18);
+    tabled_twice(72, 36);
+    tabled(108, 54);
+    tabled(216, 108);
     untabled(0, 0);
     untabled(11, 5);
     untabled(48, 24);
     untabled(18446744073709551615, 36);
+    untabled(144, 72);
+    untabled(217, 108);
 }

@@ -3,7 +3,12 @@ ghost use Prim.Native.Nat.{_≤_, _<_, _^_};
 use stream::Stream;
 
 // Room for a hop of the longest block and for buffers that are too long.
-const ROOM: usize = 40;
+const ROOM: usize = 112;
+
+// The most samples of a hop that are shown one by one, and the entries of a tail.
+const SHOWN: usize = 40;
+
+const SHOWN_TAIL: usize = 36;
 
 // The ends of a coefficient's range, and one beyond.
 const MOST: i32 = 536870912;
@@ -14,24 +19,38 @@ const ABOVE: i32 = 536870913;
 
 const BELOW: i32 = -536870913;
 
-// Bits of all places, of the odd and of the even ones.
-const EVERY: u64 = 1099511627775;
+// Bits of the even places, of the odd ones, and of all.
+const EVEN: u64 = 1;
 
-const ODD: u64 = 733007751850;
+const ODD: u64 = 2;
 
-const EVEN: u64 = 366503875925;
+const EVERY: u64 = 3;
 
 // Blocks of a long stream, and of a list with and without refused steps.
 const BLOCKS: usize = 12;
 
 const TWICE: usize = 16;
 
+// An entry of a tail is shown, or behind the first ones put into a sum.
+fn show_entry(h: u64, i: usize, v: i64) -> u64
+    requires { ⌜ h < 2 ^ 32 ⌝ }
+    ensures { λ r. ⌜ r < 2 ^ 32 ⌝ }
+{
+    if i < SHOWN_TAIL {
+        report::field(v);
+        return h;
+    }
+    report::summed(h, v)
+}
+
 fn show_stream(n: usize, tail: &[i64]) {
     report::word(b"stream");
     report::count(n);
+    let mut h = 0;
     for i in 0..tail.len() {
-        report::field(tail[i]);
+        h = show_entry(h, i, tail[i]);
     }
+    report::count(h as usize);
     report::end();
 }
 
@@ -39,7 +58,7 @@ fn show_stream(n: usize, tail: &[i64]) {
 fn show(code: u32, out: &[i16], n: usize, tail: &[i64]) {
     report::word(b"out");
     report::count(code as usize);
-    report::samples(out);
+    report::samples(out, SHOWN);
     show_stream(n, tail);
 }
 
@@ -53,7 +72,7 @@ fn told(s: Stream, x: &[i32], out: &mut [i16]) -> Stream {
 
 // A step on the first m entries of x and a buffer of l marks.
 fn offer(s: Stream, x: [i32; ROOM], m: usize, l: usize) -> Stream
-    requires { ⌜ (m ≤ 40) × (l ≤ 40) ⌝ }
+    requires { ⌜ (m ≤ 112) × (l ≤ 112) ⌝ }
 {
     let mut out = [12345; ROOM];
     told(s, &x[..m], &mut out[..l])
@@ -66,7 +85,7 @@ fn told_in_place(n: usize, tail: &mut [i64], x: &[i32], out: &mut [i16]) {
 }
 
 fn offer_in_place(n: usize, tail: &mut [i64], x: [i32; ROOM], m: usize, l: usize)
-    requires { ⌜ (m ≤ 40) × (l ≤ 40) ⌝ }
+    requires { ⌜ (m ≤ 112) × (l ≤ 112) ⌝ }
 {
     let mut out = [12345; ROOM];
     told_in_place(n, tail, &x[..m], &mut out[..l]);
@@ -85,20 +104,19 @@ fn noise(seed: u64, span: u64) -> [i32; ROOM]
     x
 }
 
-// As loud as a block can be: entry k is at the lower end where bit k of `signs` is set, and at the upper end elsewhere.
+// As loud as a block can be: entry k is at the lower end where the bit of its place is set in `signs`, and at the upper end elsewhere.
 fn loud(signs: u64) -> [i32; ROOM] {
     let mut x = [0; ROOM];
-    let mut rest = signs;
     for k in 0..ROOM {
-        x[k] = if rest % 2 == 1 { LEAST } else { MOST };
-        rest = rest / 2;
+        let bit = if k % 2 == 0 { signs % 2 } else { signs / 2 };
+        x[k] = if bit == 1 { LEAST } else { MOST };
     }
     x
 }
 
 // A block with one entry put in place of its own.
 fn with(x: [i32; ROOM], k: usize, v: i32) -> [i32; ROOM]
-    requires { ⌜ k < 40 ⌝ }
+    requires { ⌜ k < 112 ⌝ }
 {
     let mut r = x;
     r[k] = v;
@@ -125,7 +143,7 @@ fn span(b: usize) -> u64
 // A step that is refused: by the length of either buffer, by a coefficient, by both. What it is handed: the block, how many entries of
 // it, and how many marks.
 fn spoilt(x: [i32; ROOM], m: usize, kind: usize) -> [i32; ROOM]
-    requires { ⌜ (1 ≤ m) × (m ≤ 36) ⌝ }
+    requires { ⌜ (1 ≤ m) × (m ≤ 108) ⌝ }
 {
     if kind == 2 {
         return with(x, m - 1, ABOVE);
@@ -147,8 +165,8 @@ fn entries(m: usize, kind: usize) -> usize
 }
 
 fn space(m: usize, kind: usize) -> usize
-    requires { ⌜ (1 ≤ m) × (m ≤ 36) ⌝ }
-    ensures { λ r. ⌜ r ≤ 37 ⌝ }
+    requires { ⌜ (1 ≤ m) × (m ≤ 108) ⌝ }
+    ensures { λ r. ⌜ r ≤ 109 ⌝ }
 {
     if kind == 1 {
         return m + 1;
@@ -160,13 +178,13 @@ fn space(m: usize, kind: usize) -> usize
 }
 
 fn refused(s: Stream, x: [i32; ROOM], m: usize, kind: usize) -> Stream
-    requires { ⌜ (1 ≤ m) × (m ≤ 36) ⌝ }
+    requires { ⌜ (1 ≤ m) × (m ≤ 108) ⌝ }
 {
     offer(s, spoilt(x, m, kind), entries(m, kind), space(m, kind))
 }
 
 fn refused_in_place(n: usize, tail: &mut [i64], x: [i32; ROOM], m: usize, kind: usize)
-    requires { ⌜ (1 ≤ m) × (m ≤ 36) ⌝ }
+    requires { ⌜ (1 ≤ m) × (m ≤ 108) ⌝ }
 {
     offer_in_place(
         n,
@@ -179,7 +197,7 @@ fn refused_in_place(n: usize, tail: &mut [i64], x: [i32; ROOM], m: usize, kind: 
 
 // A long stream: a refused step first and after every block.
 fn long(n: usize, m: usize)
-    requires { ⌜ (n ≤ 72) × (1 ≤ m) × (m ≤ 36) ⌝ }
+    requires { ⌜ (n ≤ 216) × (1 ≤ m) × (m ≤ 108) ⌝ }
 {
     let made = filter_bank::fresh(n);
     let mut s = refused(made.stream, loud(0), m, 2);
@@ -192,7 +210,7 @@ fn long(n: usize, m: usize)
 
 // The same blocks in place, with a refused step before each of them, and by value: every pair of answers is the same.
 fn beside(n: usize, m: usize)
-    requires { ⌜ (n ≤ 72) × (1 ≤ m) × (m ≤ 36) ⌝ }
+    requires { ⌜ (n ≤ 216) × (1 ≤ m) × (m ≤ 108) ⌝ }
 {
     let made = filter_bank::fresh(n);
     let mut t = made.stream;
@@ -207,7 +225,7 @@ fn beside(n: usize, m: usize)
 
 // Buffers of another size than m, one of them or both.
 fn wrong(s: Stream, x: [i32; ROOM], m: usize, size: usize) -> Stream
-    requires { ⌜ (m ≤ 36) × (size ≤ 37) ⌝ }
+    requires { ⌜ (m ≤ 108) × (size ≤ 109) ⌝ }
 {
     let s1 = offer(s, x, m, size);
     let s2 = offer(s1, x, size, m);
@@ -216,7 +234,7 @@ fn wrong(s: Stream, x: [i32; ROOM], m: usize, size: usize) -> Stream
 
 // Wrong lengths between two good blocks.
 fn sizes(n: usize, m: usize)
-    requires { ⌜ (1 ≤ m) × (m ≤ 36) ⌝ }
+    requires { ⌜ (1 ≤ m) × (m ≤ 108) ⌝ }
 {
     let x = noise(11, 1000000);
     let made = filter_bank::fresh(n);
@@ -230,14 +248,14 @@ fn sizes(n: usize, m: usize)
 // Loud blocks. All of one sign and then alternating have the signs of the kernel's entries for one place: no sum of a tail entry
 // and a value goes further. It is tried both ways.
 fn loud_pair(s: Stream, m: usize, signs: u64, then: u64) -> Stream
-    requires { ⌜ m ≤ 36 ⌝ }
+    requires { ⌜ m ≤ 108 ⌝ }
 {
     let s1 = offer(s, loud(signs), m, m);
     offer(s1, loud(then), m, m)
 }
 
 fn extremes(n: usize, m: usize)
-    requires { ⌜ m ≤ 36 ⌝ }
+    requires { ⌜ m ≤ 108 ⌝ }
 {
     let made = filter_bank::fresh(n);
     let s1 = loud_pair(made.stream, m, 0, EVERY);
@@ -249,7 +267,7 @@ fn extremes(n: usize, m: usize)
 
 // The coefficient v, first and last, taken or not, and with buffers that are short or long by one.
 fn limit(n: usize, m: usize, v: i32)
-    requires { ⌜ (1 ≤ m) × (m ≤ 36) ⌝ }
+    requires { ⌜ (1 ≤ m) × (m ≤ 108) ⌝ }
 {
     let x = noise(7, 1000000);
     let first = with(x, 0, v);
@@ -264,7 +282,7 @@ fn limit(n: usize, m: usize, v: i32)
 
 // A coefficient beyond the range at every place.
 fn limit_places(n: usize, m: usize)
-    requires { ⌜ m ≤ 36 ⌝ }
+    requires { ⌜ m ≤ 108 ⌝ }
 {
     let made = filter_bank::fresh(n);
     let mut s = made.stream;
@@ -276,7 +294,7 @@ fn limit_places(n: usize, m: usize)
 }
 
 fn limits(n: usize, m: usize)
-    requires { ⌜ (1 ≤ m) × (m ≤ 36) ⌝ }
+    requires { ⌜ (1 ≤ m) × (m ≤ 108) ⌝ }
 {
     limit(n, m, MOST);
     limit(n, m, ABOVE);
@@ -288,7 +306,7 @@ fn limits(n: usize, m: usize)
 
 // A forged stream, all its tail entries `rest` but entry i, which is v: one step on a quiet block.
 fn forged(n: usize, m: usize, rest: i64, i: usize, v: i64)
-    requires { ⌜ (m ≤ 36) × (i < 36) ⌝ }
+    requires { ⌜ (m ≤ 108) × (i < 108) ⌝ }
 {
     let mut tail = [rest; stream::STORAGE];
     tail[i] = v;
@@ -298,7 +316,7 @@ fn forged(n: usize, m: usize, rest: i64, i: usize, v: i64)
 
 // A forged stream is refused with 4 before any length and any coefficient is looked at.
 fn forged_first(n: usize, m: usize, v: i64)
-    requires { ⌜ m ≤ 36 ⌝ }
+    requires { ⌜ m ≤ 108 ⌝ }
 {
     let s = Stream {
         n: n,
@@ -312,7 +330,7 @@ fn forged_first(n: usize, m: usize, v: i64)
 
 // A whole tail of v, and a block that drives one place as far as it goes.
 fn driven(n: usize, m: usize, v: i64, signs: u64)
-    requires { ⌜ m ≤ 36 ⌝ }
+    requires { ⌜ m ≤ 108 ⌝ }
 {
     let s = Stream {
         n: n,
@@ -323,7 +341,7 @@ fn driven(n: usize, m: usize, v: i64, signs: u64)
 
 // A tail entry beyond the limit at every place.
 fn tail_places(n: usize, m: usize, above: i64, below: i64)
-    requires { ⌜ m ≤ 36 ⌝ }
+    requires { ⌜ m ≤ 108 ⌝ }
 {
     for i in 0..m {
         forged(n, m, 0, i, above);
@@ -333,7 +351,7 @@ fn tail_places(n: usize, m: usize, above: i64, below: i64)
 
 // Tail entries at the limit and one beyond, in the first place and in the last.
 fn tails(n: usize, m: usize, most: i64, above: i64, least: i64, below: i64)
-    requires { ⌜ (1 ≤ m) × (m ≤ 36) ⌝ }
+    requires { ⌜ (1 ≤ m) × (m ≤ 108) ⌝ }
 {
     forged(n, m, most, 0, most);
     forged(n, m, least, 0, least);
@@ -353,7 +371,7 @@ fn tails(n: usize, m: usize, most: i64, above: i64, least: i64, below: i64)
 
 // A tail of zeros whose entries beyond M are v.
 fn rubbish(m: usize, v: i64) -> [i64; stream::STORAGE]
-    requires { ⌜ m ≤ 36 ⌝ }
+    requires { ⌜ m ≤ 108 ⌝ }
 {
     let mut tail = [0; stream::STORAGE];
     for i in m..stream::STORAGE {
@@ -364,7 +382,7 @@ fn rubbish(m: usize, v: i64) -> [i64; stream::STORAGE]
 
 // Such a stream through steps that are taken and refused.
 fn kept(n: usize, m: usize, v: i64)
-    requires { ⌜ (1 ≤ m) × (m ≤ 36) ⌝ }
+    requires { ⌜ (1 ≤ m) × (m ≤ 108) ⌝ }
 {
     let tail = rubbish(m, v);
     let s = Stream { n: n, tail: tail };
@@ -377,16 +395,36 @@ fn kept(n: usize, m: usize, v: i64)
 
 // Rubbish beyond M: kept, and never a cause.
 fn beyond(n: usize, m: usize)
-    requires { ⌜ (1 ≤ m) × (m < 36) ⌝ }
+    requires { ⌜ (1 ≤ m) × (m < 108) ⌝ }
 {
     forged(n, m, 0, m, -9223372036854775808);
-    forged(n, m, 0, 35, 9223372036854775807);
+    forged(n, m, 0, stream::STORAGE - 1, 9223372036854775807);
     kept(n, m, -9223372036854775808);
     kept(n, m, 9223372036854775807);
 }
 
+// A tail of `size` entries in place: taken where that is a stream's storage.
+fn tail_size(n: usize, m: usize, size: usize)
+    requires { ⌜ (m ≤ 108) × (size ≤ 112) ⌝ }
+{
+    let mut tail = [7; ROOM];
+    offer_in_place(n, &mut tail[..size], noise(9, 1000000), m, m);
+}
+
+// No tail, one of a hop, one of a hop at N = 72, one entry fewer than the storage and one more, and the storage.
+fn tail_sizes(n: usize, m: usize)
+    requires { ⌜ m ≤ 108 ⌝ }
+{
+    tail_size(n, m, 0);
+    tail_size(n, m, m);
+    tail_size(n, m, 36);
+    tail_size(n, m, stream::STORAGE - 1);
+    tail_size(n, m, stream::STORAGE + 1);
+    tail_size(n, m, stream::STORAGE);
+}
+
 fn length(n: usize, m: usize)
-    requires { ⌜ (n ≤ 72) × (1 ≤ m) × (m ≤ 36) ⌝ }
+    requires { ⌜ (n ≤ 216) × (1 ≤ m) × (m ≤ 108) ⌝ }
 {
     long(n, m);
     beside(n, m);
@@ -394,6 +432,7 @@ fn length(n: usize, m: usize)
     extremes(n, m);
     limits(n, m);
     limit_places(n, m);
+    tail_sizes(n, m);
 }
 
 fn made(n: usize) {
@@ -413,10 +452,11 @@ fn untabled(n: usize) {
     forged(n, 0, 0, 0, 0);
     forged(n, 18, 0, 3, 5);
     forged_first(n, 24, 0);
+    tail_size(n, 18, 36);
 }
 
-// Tails at the limit of every length: M times 2^55.
-fn all_tails() {
+// Tails at the limit of a length: M times 2^55.
+fn short_tails() {
     tails(
         12,
         6,
@@ -451,21 +491,52 @@ fn all_tails() {
     );
 }
 
+// The same at the two longest lengths.
+fn long_tails() {
+    tails(
+        108,
+        54,
+        1945555039024054272,
+        1945555039024054273,
+        -1945555039024054272,
+        -1945555039024054273,
+    );
+    tails(
+        216,
+        108,
+        3891110078048108544,
+        3891110078048108545,
+        -3891110078048108544,
+        -3891110078048108545,
+    );
+}
+
 fn main() {
     made(12);
     made(24);
     made(36);
     made(72);
+    made(108);
+    made(216);
     untabled(0);
     untabled(11);
     untabled(48);
     untabled(18446744073709551615);
+    untabled(107);
+    untabled(144);
+    untabled(217);
+    untabled(432);
     length(12, 6);
     length(24, 12);
     length(36, 18);
     length(72, 36);
-    all_tails();
+    length(108, 54);
+    length(216, 108);
+    short_tails();
+    long_tails();
     beyond(12, 6);
     beyond(24, 12);
     beyond(36, 18);
+    beyond(72, 36);
+    beyond(108, 54);
 }

@@ -5,7 +5,7 @@ ghost use Rattle.arithmetic.specs.QuotientLaws.{splits};
 ghost use Rattle.cosine.specs.Kernels.{tabled};
 
 // Sums around zero, halves of either sign of every divisor, one beside them, and the ends of a sum.
-const COUNT: usize = 73;
+const COUNT: usize = 89;
 
 const SUMS: [i64; COUNT] = [
     0,
@@ -81,6 +81,22 @@ const SUMS: [i64; COUNT] = [
     -32769,
     1234567890123456789,
     -1234567890123456789,
+    57982058495,
+    57982058496,
+    57982058497,
+    -57982058497,
+    -57982058496,
+    -57982058495,
+    3891110078048108544,
+    -3891110078048108544,
+    115964116991,
+    115964116992,
+    115964116993,
+    -115964116993,
+    -115964116992,
+    -115964116991,
+    7782220156096217088,
+    -7782220156096217088,
 ];
 
 fn line(word: &[u8], of: usize, a: i64, value: i64) {
@@ -147,7 +163,7 @@ fn clamps() {
 }
 
 fn cosines() {
-    for t in 0..600 {
+    for t in 0..1800 {
         report::word(b"C");
         report::count(t);
         report::field(cosine::cosine(t));
@@ -207,6 +223,13 @@ fn length(n: usize)
     scales(n);
     windows(n);
     kernels(n);
+}
+
+// A length at which the short route is offered.
+fn short_length(n: usize)
+    requires { ⌜ T (tabled n) × T (splits n) ⌝ }
+{
+    length(n);
     short_kernels(n);
 }
 
@@ -228,8 +251,10 @@ fn main() {
     shifts(29);
     clamps();
     cosines();
-    length(12);
-    length(24);
-    length(36);
-    length(72);
+    short_length(12);
+    short_length(24);
+    short_length(36);
+    short_length(72);
+    length(108);
+    length(216);
 }

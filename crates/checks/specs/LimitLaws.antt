@@ -14,6 +14,7 @@ use Rattle.arithmetic.specs.OrderLaws.{abs-le}
 use Rattle.arithmetic.specs.TestLaws.{all-at, both-left, both-right, is-T}
 use Rattle.cosine.specs.Kernels.{tabled}
 use Rattle.cosine.specs.LengthLaws.{length-of}
+use Rattle.stream.specs.Synthesis.{storage}
 use Rattle.checks.specs.Limits.{within, coefficientLimit, inRange, hopLimit, counted}
 
 -- a number within the limit
@@ -37,5 +38,5 @@ unfolding counted
 counted-most H e = leb→le H hopLimit (both-right (leb 1 H) (leb H hopLimit) (is-T e))
 
 -- the products that the code makes are small
-pub places-few : (N : ℕ) → T (tabled N) → (B : ℕ) → B ≤ 4096 → B * (N / 2) ≤ 4096 * 36
-places-few N t B p = mul-le-mul p (let h : N / 2 ≤ 36 = omega (arith, length-of N t .most) in h)
+pub places-few : (N : ℕ) → T (tabled N) → (B : ℕ) → B ≤ 4096 → B * (N / 2) ≤ 4096 * storage
+places-few N t B p = mul-le-mul p (let h : N / 2 ≤ storage = omega (arith, length-of N t .most) in h)

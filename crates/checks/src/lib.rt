@@ -24,7 +24,7 @@ pub fn is_offered(route: Route, n: usize) -> bool
 {
     match route {
         Route::Direct => cosine::is_tabled(n),
-        Route::Short => cosine::is_tabled(n),
+        Route::Short => split::is_offered(n),
     }
 }
 

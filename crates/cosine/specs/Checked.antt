@@ -28,13 +28,13 @@ checked =
     (rnd (negℤ (pos 3)) 2 is negℤ (pos 1)) ∷
     (rnd (negℤ (pos 5)) 4 is negℤ (pos 1)) ∷
     (C (pos 0) is pos 67108864) ∷
-    (C (pos 24) is pos 58117981) ∷
-    (C (pos 36) is pos 47453133) ∷
-    (C (pos 48) is pos 33554432) ∷
-    (C (pos 72) is pos 0) ∷
-    (C (pos 144) is negℤ (pos 67108864)) ∷
-    (K 12 0 0 is C (pos 42)) ∷
-    (K 12 11 5 is negℤ (C (pos 42))) ∷
+    (C (pos 72) is pos 58117981) ∷
+    (C (pos 108) is pos 47453133) ∷
+    (C (pos 144) is pos 33554432) ∷
+    (C (pos 216) is pos 0) ∷
+    (C (pos 432) is negℤ (pos 67108864)) ∷
+    (K 12 0 0 is C (pos 126)) ∷
+    (K 12 11 5 is negℤ (C (pos 126))) ∷
     []
 
 right : Checked → Bool

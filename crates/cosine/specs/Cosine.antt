@@ -1,4 +1,4 @@
--- The cosine table and C(t): definitions. Document 01, 'Rounding and the cosine table'.
+-- The cosine table and C(t): definitions. Document 01, 'Rounding and the cosine table', with the turn cut in 864 parts (P4).
 use mathlib.Core.Bool.{cond}
 use Prim.Native.Nat.{ℕ, zero, suc, _-_, _*_, _/_, _%_, _^_}
 use lib.Dec.{leb, eqb}
@@ -6,9 +6,9 @@ use lib.IntN.{ℤ, pos, negsuc, negℤ, _*ℤ_}
 use Rattle.arithmetic.specs.Rounding.{rnd}
 use Rattle.arithmetic.specs.Sums.{sum}
 
--- the parts that a turn is cut in, and the parts of it that have names: 144, 72, and 96, 48, 24 beside the angle s of the short route
+-- the parts that a turn is cut in, and the parts of it that have names: 432, 216, and 288, 144, 72 beside the angle s of the short route
 abbrev pub turn : ℕ
-turn = 288
+turn = 864
 
 abbrev pub half-turn : ℕ
 half-turn = turn / 2
@@ -26,7 +26,7 @@ abbrev pub twelfth : ℕ
 twelfth = turn / 12
 
 -- ---- the rule of the table
--- the angle u = 2 × p × t / 288, with p = 3,141,592,653,589,793 / 10^15: top t over bottom
+-- the angle u = 2 × p × t / 864, with p = 3,141,592,653,589,793 / 10^15: top t over bottom
 unfoldable pub top : ℕ → ℕ
 top t = 2 * 3141592653589793 * t
 
@@ -51,21 +51,21 @@ signed i z = cond (eqb (i % 2) 0) z (negℤ z)
 unfoldable pub series : ℕ → ℤ
 series t = sum 11 (λ i. signed i (pos (term t i)))
 
--- C(t) for t = 0 to 72: the series times 67,108,864, rounded
+-- C(t) for t = 0 to 216: the series times 67,108,864, rounded
 unfoldable pub firstQuarter : ℕ → ℤ
 firstQuarter t = rnd (pos 67108864 *ℤ series t) denominator
 
 -- ---- any other t
--- t modulo 288, in 0 .. 287; negsuc t stands for -(t + 1)
+-- t modulo 864, in 0 .. 863; negsuc t stands for -(t + 1)
 unfoldable pub reduced : ℤ → ℕ
 reduced (pos t) = t % turn
 reduced (negsuc t) = turn - 1 - t % turn
 
--- a rule c for t = 0 to 72, continued: above 72 it is -c(144 - t) up to 144 ..
+-- a rule c for t = 0 to 216, continued: above 216 it is -c(432 - t) up to 432 ..
 unfoldable pub toHalf : (ℕ → ℤ) → ℕ → ℤ
 toHalf c t = cond (leb t quarter) (c t) (negℤ (c (half-turn - t)))
 
--- .. and what stands at 288 - t beyond
+-- .. and what stands at 864 - t beyond
 unfoldable pub toTurn : (ℕ → ℤ) → ℕ → ℤ
 toTurn c t = cond (leb t half-turn) (toHalf c t) (toHalf c (turn - t))
 

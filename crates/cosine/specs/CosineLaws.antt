@@ -195,7 +195,7 @@ pub C-size : (t : ℤ) → natAbs (C t) ≤ 2 ^ 26
 unfolding C
 C-size = by-quarter firstQuarter firstQuarter (λ x y. natAbs x ≤ 2 ^ 26) size (λ t p. rw (abs-neg (firstQuarter t)) (size t p))
 
--- C read from the 73 numbers, for computed tests
+-- C read from the 217 numbers, for computed tests
 unfoldable pub tableC : ℤ → ℤ
 tableC t = continued (at numbers) t
 

@@ -1,5 +1,5 @@
 -- Laws of the window and the kernels, with N as a parameter over `Part`: range, symmetry, and the fold of source 003, equation (41).
-use mathlib.Core.Path.{_≡_, ap}
+use mathlib.Core.Path.{_≡_, ap, _∙_}
 use Prim.Native.Nat.{ℕ, _+_, _-_, _*_, _/_, _^_, _≤_, _<_}
 use native.Mathlib.Nat.{mul-le-mul-left}
 use native.Mathlib.Omega.{arith}
@@ -51,26 +51,33 @@ module _ (N : ℕ) (len : Part N) where
       go : (d a b k : ℕ) → d * (a + b) ≡ half-turn → d * a * (2 * k + 1) + d * b * (2 * k + 1) ≡ half-turn + turn * k
       go d a b k h = omega (arith, ap (λ (x : ℕ). x * (2 * k + 1)) h)
 
-  -- ---- the fold: N/4 is M/2
-  pub fold-first : (n k : ℕ) → n < N / 4 → K N n k ≡ F N (n + N / 4) k
-  unfolding K F
-  fold-first n k p = ap (λ (t : ℕ). C (pos (d N * t * (2 * k + 1)))) (omega (arith, len .four))
+  -- ---- the folded kernel at places that make a block, and a block further on: its sign changes
+  pub F-less : (i j k : ℕ) → i + j + 1 ≡ N → F N i k ≡ negℤ (F N j k)
+  unfolding F
+  F-less i j k e = C-less (pos (d N * (2 * i + 1) * (2 * k + 1))) (pos (d N * (2 * j + 1) * (2 * k + 1))) (pos k) (ap pos (meet (2 * i + 1) (2 * j + 1) k (omega (arith, e))))
 
-  pub fold-middle : (n k : ℕ) → N / 4 ≤ n → n < 3 * (N / 4) → K N n k ≡ negℤ (F N (3 * (N / 4) - 1 - n) k)
-  unfolding K F
-  fold-middle n k p q =
-      C-less (pos (d N * (2 * n + 1 + N / 2) * (2 * k + 1))) (pos (d N * (2 * (3 * (N / 4) - 1 - n) + 1) * (2 * k + 1))) (pos k)
-      (ap pos (meet (2 * n + 1 + N / 2) (2 * (3 * (N / 4) - 1 - n) + 1) k (omega (arith, len .four))))
-
-  pub fold-last : (n k : ℕ) → 3 * (N / 4) ≤ n → K N n k ≡ negℤ (F N (n - 3 * (N / 4)) k)
-  unfolding K F
-  fold-last n k p =
-      let e : 2 * n + 1 + N / 2 ≡ 2 * (n - 3 * (N / 4)) + 1 + 2 * N = omega (arith, len .four) in
-      C-more (pos (d N * (2 * n + 1 + N / 2) * (2 * k + 1))) (pos (d N * (2 * (n - 3 * (N / 4)) + 1) * (2 * k + 1))) (pos k)
-      (ap pos (rw e (go (d N) N (2 * (n - 3 * (N / 4)) + 1) k (len .parts))))
+  pub F-more : (i j k : ℕ) → i ≡ j + N → F N i k ≡ negℤ (F N j k)
+  unfolding F
+  F-more i j k e =
+      let f : 2 * i + 1 ≡ 2 * j + 1 + 2 * N = omega (arith, e) in
+      C-more (pos (d N * (2 * i + 1) * (2 * k + 1))) (pos (d N * (2 * j + 1) * (2 * k + 1))) (pos k) (ap pos (rw f (go (d N) N (2 * j + 1) k (len .parts))))
     where
       go : (d N b k : ℕ) → d * N ≡ quarter → d * (b + 2 * N) * (2 * k + 1) ≡ d * b * (2 * k + 1) + half-turn + turn * k
       go d N b k h = omega (arith, ap (λ (x : ℕ). x * (2 * k + 1)) h)
+
+  -- ---- the fold: N/4 is M/2
+  K-is : (n k : ℕ) → K N n k ≡ F N (n + N / 4) k
+  unfolding K F
+  K-is n k = ap (λ (t : ℕ). C (pos (d N * t * (2 * k + 1)))) (omega (arith, len .four))
+
+  pub fold-first : (n k : ℕ) → n < N / 4 → K N n k ≡ F N (n + N / 4) k
+  fold-first n k p = K-is n k
+
+  pub fold-middle : (n k : ℕ) → N / 4 ≤ n → n < 3 * (N / 4) → K N n k ≡ negℤ (F N (3 * (N / 4) - 1 - n) k)
+  fold-middle n k p q = K-is n k ∙ F-less (n + N / 4) (3 * (N / 4) - 1 - n) k (omega (arith, len .four))
+
+  pub fold-last : (n k : ℕ) → 3 * (N / 4) ≤ n → K N n k ≡ negℤ (F N (n - 3 * (N / 4)) k)
+  fold-last n k p = K-is n k ∙ F-more (n + N / 4) (n - 3 * (N / 4)) k (omega (arith, len .four))
 
   -- the kernel's mirrors: odd on the first hop, even on the second
   pub K-first-hop : (n k : ℕ) → n < N / 2 → K N (N / 2 - 1 - n) k ≡ negℤ (K N n k)

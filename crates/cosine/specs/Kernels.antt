@@ -1,5 +1,5 @@
 -- The block lengths, the window W and the kernels K and L: definitions. Document 01, 'What the recorder holds',
--- 'Rounding and the cosine table' and 'Short route'.
+-- 'Rounding and the cosine table' and 'Short route', with P4's lengths and parts of a turn.
 use mathlib.Core.Bool.{Bool, cond, not}
 use mathlib.Core.List.{List, [], _∷_}
 use Prim.Native.Nat.{ℕ, _+_, _*_, _/_, _%_}
@@ -8,15 +8,22 @@ use lib.IntN.{ℤ, pos, negℤ, _+ℤ_, _-ℤ_, _*ℤ_}
 use Rattle.arithmetic.specs.Lists.{every}
 use Rattle.cosine.specs.Cosine.{quarter, third, sixth, twelfth, C}
 
--- N is the block length: 12, 24, 36 or 72. M = N/2 is a hop, document 01's term
+-- N is the block length: 12, 24, 36, 72, 108 or 216 (P4). M = N/2 is a hop, document 01's term
 unfoldable pub lengths : List ℕ
-lengths = 12 ∷ 24 ∷ 36 ∷ 72 ∷ []
+lengths = 12 ∷ 24 ∷ 36 ∷ 72 ∷ 108 ∷ 216 ∷ []
 
 -- N is one of them
 unfoldable pub tabled : ℕ → Bool
 tabled N = not (every (λ L. not (eqb N L)) lengths)
 
--- d = 72/N
+-- the lengths at which the short route is offered: document 01's four
+unfoldable pub shortLengths : List ℕ
+shortLengths = 12 ∷ 24 ∷ 36 ∷ 72 ∷ []
+
+unfoldable pub shortTabled : ℕ → Bool
+shortTabled N = not (every (λ L. not (eqb N L)) shortLengths)
+
+-- d = 216/N
 abbrev pub d : ℕ → ℕ
 d N = quarter / N
 
@@ -47,7 +54,7 @@ L N n k = C (pos (3 * d N * (2 * n + 1 + N / 6) * (2 * k + 1)))
 unfoldable pub s : ℕ → ℕ → ℕ
 s N n = 2 * d N * (2 * n + 1)
 
--- the cosines beside e and f in the short route's rB and rC: C(72-s), C(s-24) + C(s+24), C(s), C(48-s) + C(96-s)
+-- the cosines beside e and f in the short route's rB and rC: C(216-s), C(s-72) + C(s+72), C(s), C(144-s) + C(288-s)
 unfoldable pub eB : ℕ → ℕ → ℤ
 eB N n = C (pos quarter -ℤ pos (s N n))
 

@@ -1,9 +1,9 @@
 -- Laws of the block lengths: what every tabled N is, and how a test computed over all lengths becomes a law of N.
-use mathlib.Core.Path.{_≡_, subst, sym}
+use mathlib.Core.Path.{_≡_, subst, sym, ap}
 use mathlib.Core.Bool.{Bool, true, false, not, cond}
 use mathlib.Core.List.{List, [], _∷_}
 use Prim.Native.Nat.{ℕ, _*_, _/_, _≤_, _<_}
-use native.Mathlib.Nat.{mul-le-mul, div-le-self, lt-of-le-of-lt}
+use native.Mathlib.Nat.{mul-le-mul, div-le-self, div-eq-of-eq-mul-left, lt-of-le-of-lt}
 use native.Mathlib.Omega.{arith}
 use lib.Dec.{T, lit<, eqb, eqb→eq, leb, leb→le, ltb, ltb→lt}
 use mir.Syntax.{w64}
@@ -12,12 +12,12 @@ use Rattle.arithmetic.specs.Lists.{every}
 use Rattle.arithmetic.specs.TestLaws.{both-left, both-right}
 use Rattle.arithmetic.specs.QuotientLaws.{quarters, splits}
 use Rattle.cosine.specs.Cosine.{quarter}
-use Rattle.cosine.specs.Kernels.{lengths, tabled, d}
+use Rattle.cosine.specs.Kernels.{lengths, tabled, shortLengths, shortTabled, d}
 
--- a test of every length holds of a tabled one
-pub of-tabled : (p : ℕ → Bool) → T (every p lengths) → (N : ℕ) → T (tabled N) → T (p N)
-unfolding tabled every
-of-tabled p t N h = among lengths t h
+-- a test of every number of a list holds of one that is listed there
+pub of-listed : (p : ℕ → Bool) (ls : List ℕ) → T (every p ls) → (N : ℕ) → T (not (every (λ L. not (eqb N L)) ls)) → T (p N)
+unfolding every
+of-listed p ls t N h = among ls t h
   where
     pick : (L : ℕ) (b more : Bool) → (T b → N ≡ L) → T (p L) → (T (not more) → T (p N)) → T (not (cond (not b) more false)) → T (p N)
     pick L true more e l r h = subst (λ (n : ℕ). T (p n)) (sym (e tt)) l
@@ -28,23 +28,63 @@ of-tabled p t N h = among lengths t h
     among (L ∷ ls) t h =
         pick L (eqb N L) (every (λ L. not (eqb N L)) ls) (eqb→eq N L) (both-left (p L) (every p ls) t) (λ u. among ls (both-right (p L) (every p ls) t) u) h
 
+-- a test of every length holds of a tabled one
+pub of-tabled : (p : ℕ → Bool) → T (every p lengths) → (N : ℕ) → T (tabled N) → T (p N)
+unfolding tabled
+of-tabled p t N h = of-listed p lengths t N h
+
+-- and one of the first four, of one at which the short route is offered
+pub of-short : (p : ℕ → Bool) → T (every p shortLengths) → (N : ℕ) → T (shortTabled N) → T (p N)
+unfolding shortTabled
+of-short p t N h = of-listed p shortLengths t N h
+
+short-test : T (every tabled shortLengths)
+unfolding every tabled lengths shortLengths
+short-test = tt
+
+pub short-tabled : (N : ℕ) → T (shortTabled N) → T (tabled N)
+short-tabled = of-short tabled short-test
+
 -- the lengths by their tests: what is not one of the others is the last
 listed : ℕ → Bool
-listed N = cond (eqb N 12) true (cond (eqb N 24) true (cond (eqb N 36) true (eqb N 72)))
+listed N = cond (eqb N 12) true (cond (eqb N 24) true (cond (eqb N 36) true (cond (eqb N 72) true (cond (eqb N 108) true (eqb N 216)))))
 
 listed-test : T (every listed lengths)
 unfolding every listed lengths
 listed-test = tt
 
-pub last-length : (N : ℕ) → T (tabled N) → ¬ (N ≡ 12) → ¬ (N ≡ 24) → ¬ (N ≡ 36) → N ≡ 72
-unfolding listed
-last-length N h a b c = go (eqb N 12) (eqb N 24) (eqb N 36) (eqb→eq N 12) (eqb→eq N 24) (eqb→eq N 36) (of-tabled listed listed-test N h)
+-- a test that failed leaves the rest
+other : (N L : ℕ) (more : Bool) → ¬ (N ≡ L) → T (cond (eqb N L) true more) → T more
+other N L more n = go (eqb N L) (eqb→eq N L)
   where
-    go : (p q r : Bool) → (T p → N ≡ 12) → (T q → N ≡ 24) → (T r → N ≡ 36) → T (cond p true (cond q true (cond r true (eqb N 72)))) → N ≡ 72
-    go true q r e f g t = absurd (a (e tt))
-    go false true r e f g t = absurd (b (f tt))
-    go false false true e f g t = absurd (c (g tt))
-    go false false false e f g t = eqb→eq N 72 t
+    go : (b : Bool) → (T b → N ≡ L) → T (cond b true more) → T more
+    go true e t = absurd (n (e tt))
+    go false e t = t
+
+pub last-length : (N : ℕ) → T (tabled N) → ¬ (N ≡ 12) → ¬ (N ≡ 24) → ¬ (N ≡ 36) → ¬ (N ≡ 72) → ¬ (N ≡ 108) → N ≡ 216
+unfolding listed
+last-length N h a b c e f =
+    let r5 = eqb N 216 in
+    let r4 = cond (eqb N 108) true r5 in
+    let r3 = cond (eqb N 72) true r4 in
+    let r2 = cond (eqb N 36) true r3 in
+    let r1 = cond (eqb N 24) true r2 in
+    eqb→eq N 216 (other N 108 r5 f (other N 72 r4 e (other N 36 r3 c (other N 24 r2 b (other N 12 r1 a (of-tabled listed listed-test N h))))))
+
+listed-short : ℕ → Bool
+listed-short N = cond (eqb N 12) true (cond (eqb N 24) true (cond (eqb N 36) true (eqb N 72)))
+
+listed-short-test : T (every listed-short shortLengths)
+unfolding every listed-short shortLengths
+listed-short-test = tt
+
+pub last-short : (N : ℕ) → T (shortTabled N) → ¬ (N ≡ 12) → ¬ (N ≡ 24) → ¬ (N ≡ 36) → N ≡ 72
+unfolding listed-short
+last-short N h a b c =
+    let r3 = eqb N 72 in
+    let r2 = cond (eqb N 36) true r3 in
+    let r1 = cond (eqb N 24) true r2 in
+    eqb→eq N 72 (other N 36 r3 c (other N 24 r2 b (other N 12 r1 a (of-short listed-short listed-short-test N h))))
 
 -- a length is a multiple of 12, and d of its parts make a quarter turn
 pub record Length (N : ℕ) : Type 0 where
@@ -91,23 +131,29 @@ pub record Part (P : ℕ) : Type 0 where
   pub parts : d P * P ≡ quarter
   pub some : 0 < P
 
+pub whole-part : (N : ℕ) → Length N → Part N
+whole-part N l = record { four = omega (arith, l .twelve); parts = l .parts; some = l .some }
+
+module _ (N : ℕ) (l : Length N) where
+  third-some : 0 < N / 3
+  third-some = omega (arith, l .twelve, l .some)
+
+  third-whole : 3 * d N * (N / 3) ≡ quarter
+  third-whole =
+      let n : N ≡ 3 * (N / 3) = omega (arith, l .twelve) in
+      omega (arith, l .parts, ap (λ (x : ℕ). d N * x) n)
+
+  -- a third of the length has three times the d
+  pub d-third : d (N / 3) ≡ 3 * d N
+  d-third = div-eq-of-eq-mul-left {n = N / 3} third-some (sym third-whole)
+
+  pub third-part : Part (N / 3)
+  third-part =
+      let four : N / 3 ≡ 4 * (N / 12) = omega (arith, l .twelve) in
+      record { four = rw four (omega arith); parts = rw d-third third-whole; some = third-some }
+
 pub part-of : (N : ℕ) → T (tabled N) → Part N
-part-of N h =
-    let l = length-of N h in
-    record { four = omega (arith, l .twelve); parts = l .parts; some = l .some }
-
-thirds : ℕ → Bool
-thirds N = eqb (d (N / 3) * (N / 3)) quarter
-
-thirds-test : T (every thirds lengths)
-unfolding every thirds lengths
-thirds-test = tt
-
-pub third-part : (N : ℕ) → T (tabled N) → Part (N / 3)
-unfolding thirds
-third-part N h =
-    let l = length-of N h in
-    record { four = omega (arith, l .twelve); parts = eqb→eq (d (N / 3) * (N / 3)) quarter (of-tabled thirds thirds-test N h); some = omega (arith, l .twelve, l .some) }
+part-of N h = whole-part N (length-of N h)
 
 -- the products of an angle's factors stay small
 pub d-most : (N : ℕ) → d N ≤ quarter

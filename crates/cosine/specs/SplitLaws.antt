@@ -3,7 +3,7 @@
 use mathlib.Core.Path.{_≡_, refl, ap, _∙_, fun-ext}
 use mathlib.Core.Bool.{Bool, true, false, cond}
 use Prim.Native.Nat.{ℕ, _+_, _-_, _*_, _/_, _%_, _^_, _≤_, _<_}
-use native.Mathlib.Nat.{eq-of-mul-eq-mul-right, mul-left-comm}
+use native.Mathlib.Nat.{mul-left-comm}
 use native.Mathlib.Omega.{arith}
 use lib.Dec.{T, eqb, leb, leb→le}
 use lib.IntN.{ℤ, pos, negℤ, natAbs, _+ℤ_, _-ℤ_, _*ℤ_}
@@ -12,15 +12,23 @@ use Rattle.arithmetic.specs.IntegerLaws.{ints}
 use Rattle.arithmetic.specs.OrderLaws.{abs-neg}
 use Rattle.arithmetic.specs.TestLaws.{all-at, both-left, both-right}
 use Rattle.cosine.specs.Cosine.{quarter, third, sixth, twelfth, reduced, toHalf, toTurn, continued, C}
-use Rattle.cosine.specs.Kernels.{lengths, tabled, d, K, F, L, s, eB, fB, eC, fC, turned}
+use Rattle.cosine.specs.Kernels.{shortLengths, tabled, shortTabled, d, K, F, L, s, eB, fB, eC, fC, turned}
 use Rattle.cosine.specs.TableLaws.{numbers}
 use Rattle.cosine.specs.CosineLaws.{tableC, C-table, C-less, C-same}
-use Rattle.cosine.specs.LengthLaws.{length-of, third-part, of-tabled}
+use Rattle.cosine.specs.LengthLaws.{length-of, d-third, third-part, of-short}
 use Rattle.cosine.specs.KernelLaws.{L-size}
 
 -- ---- the coefficients 3k+1
 odd-third : (k : ℕ) → 2 * (3 * k + 1) + 1 ≡ 3 * (2 * k + 1)
 odd-third k = omega arith
+
+-- the folded kernel of a length whose third has three times its d
+pub F-parts : (N : ℕ) → d (N / 3) ≡ 3 * d N → (j q : ℕ) → F N j (3 * q + 1) ≡ F (N / 3) j q
+unfolding F
+F-parts N e j q = rw (e, odd-third q) (ap (λ (x : ℕ). C (pos x)) (go (d N) (2 * j + 1) (2 * q + 1)))
+  where
+    go : (d a o : ℕ) → d * a * (3 * o) ≡ 3 * d * a * o
+    go d a o = omega arith
 
 module _ (N : ℕ) (t : T (tabled N)) where
   two-thirds : 2 * N / 3 ≡ 2 * (N / 3)
@@ -28,34 +36,14 @@ module _ (N : ℕ) (t : T (tabled N)) where
       let l : 3 * (N / 3) ≡ N = omega (arith, length-of N t .twelve) in
       omega arith
 
-  -- a third of the length has three times the d
-  d-third : d (N / 3) ≡ 3 * d N
-  d-third =
-      let l = length-of N t in
-      let r = third-part N t in
-      let n : N ≡ 3 * (N / 3) = omega (arith, l .twelve) in
-      eq-of-mul-eq-mul-right (N / 3) (r .some) (d (N / 3)) (3 * d N) (omega (arith, r .parts, l .parts, ap (λ (x : ℕ). d N * x) n))
-
-  -- the short kernel is the kernel of a third of the length
-  pub L-third : (n k : ℕ) → L N n k ≡ K (N / 3) n k
-  unfolding L K
-  L-third n k =
-      let i : N / 3 / 2 ≡ N / 6 = omega arith in
-      rw (d-third, i)
-
-  -- and so is its folded kernel
-  pub F-third : (j q : ℕ) → F N j (3 * q + 1) ≡ F (N / 3) j q
-  unfolding F
-  F-third j q = rw (d-third, odd-third q) (ap (λ (x : ℕ). C (pos x)) (go (d N) (2 * j + 1) (2 * q + 1)))
-    where
-      go : (d a o : ℕ) → d * a * (3 * o) ≡ 3 * d * a * o
-      go d a o = omega arith
+  parts : d (N / 3) ≡ 3 * d N
+  parts = d-third N (length-of N t)
 
   -- the angles of K(m, 3k+1) and L(n,k) make a whole number of quarter turns: of whole turns, or an odd number of half turns
   module _ (m n k : ℕ) where
     angles : (c : ℕ) → 2 * m + 1 + N / 2 + (2 * n + 1 + N / 6) ≡ c * (N / 3) →
         d N * (2 * m + 1 + N / 2) * (2 * (3 * k + 1) + 1) + 3 * d N * (2 * n + 1 + N / 6) * (2 * k + 1) ≡ c * quarter * (2 * k + 1)
-    angles c e = rw (odd-third k, both (d N) (2 * m + 1 + N / 2) (2 * n + 1 + N / 6) (2 * k + 1), e, mul-left-comm (3 * d N) c (N / 3), ← d-third, third-part N t .parts)
+    angles c e = rw (odd-third k, both (d N) (2 * m + 1 + N / 2) (2 * n + 1 + N / 6) (2 * k + 1), e, mul-left-comm (3 * d N) c (N / 3), ← parts, third-part N (length-of N t) .parts)
       where
         both : (d a b o : ℕ) → d * a * (3 * o) + 3 * d * b * o ≡ 3 * d * (a + b) * o
         both d a b o = omega arith
@@ -158,12 +146,12 @@ module _ (c : ℤ → ℤ) (N : ℕ) where
   right : Bool
   right = all (N / 3) (λ n. all (N / 6) (λ k. splits-both n k (turned N n (short-kernel n (N / 6 - 1 - k)))))
 
-test : T (every (right tableC) lengths)
-unfolding every lengths right all splits turned s tableC continued toTurn toHalf reduced numbers
+test : T (every (right tableC) shortLengths)
+unfolding every shortLengths right all splits turned s tableC continued toTurn toHalf reduced numbers
 test = tt
 
-tested : (N : ℕ) → T (tabled N) → T (right C N)
-tested = of-tabled (right C) (rw (fun-ext C-table) test)
+tested : (N : ℕ) → T (shortTabled N) → T (right C N)
+tested = of-short (right C) (rw (fun-ext C-table) test)
 
 -- at coefficient i
 abbrev pub Split-at : (N n k i : ℕ) → ℤ → Type 0
@@ -173,7 +161,7 @@ splits-C : (N n k i : ℕ) (g : ℤ) → T (splits-at C N n k i g) → Split-at 
 unfolding L K eB fB eC fC
 splits-C N n k i g = splits-is (L N n k) g (eB N n) (fB N n) (eC N n) (fC N n) (K N (N / 3 - 1 - n) i) (K N (2 * N / 3 - 1 - n) i) (K N (N - 1 - n) i)
 
-module _ (N : ℕ) (t : T (tabled N)) (n k : ℕ) (p : n < N / 3) (q : k < N / 6) where
+module _ (N : ℕ) (t : T (shortTabled N)) (n k : ℕ) (p : n < N / 3) (q : k < N / 6) where
   both : T (splits-both C N n k (L′ N k n))
   unfolding right L
   both =

@@ -40,7 +40,7 @@ use Rattle.demands.specs.Steps.{Offer, Turn, Entry, turns, final, Record
 use Rattle.demands.specs.Chains.{calls, held}
 use Rattle.demands.specs.Recordings.{ByOneCall, BlockByBlock, Back, SharperBack, offering, outputs}
 
--- ================ DEMAND 1: the whole work, or the numbered refusal of document 01, for recordings and pages as document 02, P1 and P2, has it, with stream and buffers as they were
+-- ================ DEMAND 1: the whole work, or the numbered refusal of document 01, for recordings and pages as document 02, P1 and P2, has it, at P4's six lengths, the short route at four, with stream and buffers as they were
 -- the causes of the table, in words of the input
 abbrev pub Tabled : ℕ → Type 0
 Tabled N = T (tabled N)
@@ -191,7 +191,7 @@ pub record Demand-1 : Type 0 where
   pub state-stepped : (state x out : List ℤ) → StateStepAnswers state x out
   pub listed : (text : List ℕ) → ListingAnswers text
 
--- ================ DEMAND 2: every coefficient and every sample is document 01's, of a recording between the two hops of zeros of document 02, P1, and every byte of a page is P2's
+-- ================ DEMAND 2: every coefficient and every sample is document 01's with a turn of 864 parts (P4), of a recording between the two hops of zeros of document 02, P1, and every byte of a page is P2's
 -- y(n) = rnd(W(n) × x(n) / 2^18)
 abbrev pub y : ℕ → List ℤ → ℕ → ℤ
 y N x n = rnd (W N n *ℤ at x n) (2 ^ 18)

@@ -1,5 +1,5 @@
 -- The theorems `there-and-back`, `whole-returned`, `back-block-by-block` and `back-by-one-call` applied to Example, so that nobody has to believe that
--- their hypotheses can be met; and pages, printed and read back. All is computed from the definitions, the cosine from its series.
+-- their hypotheses can be met; a recording at N = 216; and pages, printed and read back. All is computed from the definitions, the cosine from its series.
 use mathlib.Core.Path.{_≡_, refl, sym, _∙_}
 use mathlib.Core.Bool.{Bool, false, cond}
 use mathlib.Core.List.{List, [], _∷_, _++_}
@@ -10,18 +10,18 @@ use lib.ListN.{length, getD, take, drop, replicate, getD-replicate}
 use lib.Seq.{ext-getD, getD-take, getD-drop}
 use lib.IntN.{ℤ, pos, natAbs, _-ℤ_}
 use lib.Signed.{leZ, leZ-yes}
-use Rattle.arithmetic.specs.Rounding.{floor, rnd, clamp, least, largest}
+use Rattle.arithmetic.specs.Rounding.{floor, rnd, clamp, Sample, least, largest}
 use Rattle.arithmetic.specs.Sums.{sum}
 use Rattle.arithmetic.specs.Lists.{at, table, joined, all, every}
 use Rattle.arithmetic.specs.TestLaws.{all-at, both-left, both-right}
 use Rattle.cosine.specs.Cosine.{top, bottom, factorial, denominator, term, signed, series, firstQuarter, reduced, toHalf, toTurn, continued, C}
-use Rattle.cosine.specs.Kernels.{lengths, tabled, W, rising, falling, K, L, s, eB, fB, eC, fC, turned}
+use Rattle.cosine.specs.Kernels.{lengths, tabled, W, rising, falling, K, L, s, eB, fB, eC, fC, turned, shortLengths, shortTabled}
 use Rattle.transform.specs.Analysis.{window, y, S, X, direct}
 use Rattle.split.specs.ShortRoute as R
 use Rattle.transform.specs.Synthesis.{U, V′}
 use Rattle.stream.specs.Synthesis as Y
 use Rattle.analysis.specs.declared.Route.{Route}
-use Rattle.analysis.specs.declared.Route.the-variants.{Direct}
+use Rattle.analysis.specs.declared.Route.the-variants.{Direct, Short}
 use Rattle.analysis.specs.Analysis.{offered, spectrum, coefficients}
 use Rattle.recording.specs.Recordings.{silence, padded, standing, block, part}
 use Rattle.recording.specs.Recordings.{analysis as recordingOf}
@@ -46,6 +46,7 @@ use Rattle.demands.specs.ThereAndBackLaws.{there-and-back, whole-returne
 use Rattle.demands.specs.ChainLaws.{fresh-calls, calls-there-and-back, calls-whole}
 use Rattle.demands.specs.DefinitionLaws.{demand-2}
 use Rattle.demands.specs.BackLaws.{back-by-one-call, back-block-by-block}
+use Rattle.demands.specs.UnchangedLaws.{unchanged-taken, unchanged-back}
 use Rattle.demands.specs.Example.{minus, recording, routes, knock, directly, changed, block-0, block-1, block-2, block-3, knock-1, room, small-room, five, loud, low, offer, offers, knock-offers, whole, hops-room, knock-whole}
 
 -- ---- the definitions that the tests below open, under one name
@@ -70,7 +71,7 @@ unfolding floor rnd clamp sum table all every cosines analysis synthesis example
 computed = tt
 
 answers : Unit {0}
-unfolding computed R.offered offered analyseCauses analyseCode analyseOut counted joined recordedCauses recordedCode recordedOut recordingOf playedCauses playedCode whole hops-room knock-whole
+unfolding computed shortLengths shortTabled R.offered offered analyseCauses analyseCode analyseOut counted joined recordedCauses recordedCode recordedOut recordingOf playedCauses playedCode whole hops-room knock-whole
 answers = tt
 
 -- the numbers that the steps return
@@ -101,18 +102,17 @@ knock-taken = refl
 is-sample : ℤ → Bool
 is-sample z = cond (leZ least z) (leZ z largest) false
 
-recorded-of : (H : ℕ) (x : List ℤ) → 1 ≤ H → length x ≡ H * 6 → T (all (length x) (λ i. is-sample (at x i))) → Recording 12 H x
+samples-of : (x : List ℤ) → T (all (length x) (λ i. is-sample (at x i))) → (i : ℕ) → i < length x → Sample (at x i)
 unfolding is-sample
-recorded-of H x some long samples = record {
-  hops = some;
-  long = long;
-  sample = λ i p.
-      let t : T (is-sample (at x i)) = all-at (length x) (λ i. is-sample (at x i)) samples i p in
-      record {
-        low = leZ-yes (both-left (leZ least (at x i)) (leZ (at x i) largest) t);
-        high = leZ-yes (both-right (leZ least (at x i)) (leZ (at x i) largest) t);
-      };
-}
+samples-of x test i p =
+    let t : T (is-sample (at x i)) = all-at (length x) (λ i. is-sample (at x i)) test i p in
+    record {
+      low = leZ-yes (both-left (leZ least (at x i)) (leZ (at x i) largest) t);
+      high = leZ-yes (both-right (leZ least (at x i)) (leZ (at x i) largest) t);
+    }
+
+recorded-of : (H : ℕ) (x : List ℤ) → 1 ≤ H → length x ≡ H * 6 → T (all (length x) (λ i. is-sample (at x i))) → Recording 12 H x
+recorded-of H x some long samples = record { hops = some; long = long; sample = samples-of x samples }
 
 samples : T (all (length recording) (λ i. is-sample (at recording i)))
 unfolding computed is-sample
@@ -293,6 +293,37 @@ back = back-block-by-block 12 3 7 routes recording whole hops-room recorded by-b
 knock-played : playedCode 12 1 knock-whole room ≡ 0
 unfolding answers
 knock-played = refl
+
+-- ---- at 108 and 216 the short route is refused with 1, whatever the buffers' lengths are, and the direct one is taken
+pub short-at-108 : (x out : List ℤ) → analyseCode Short 108 x out ≡ 1
+unfolding answers
+short-at-108 x out = refl
+
+pub short-at-216 : (H : ℕ) (x out : List ℤ) → recordedCode Short 216 H x out ≡ 1
+unfolding answers
+short-at-216 H x out = refl
+
+pub direct-at-216 : analyseCode Direct 216 (table 216 (λ i. pos 0)) (table 108 (λ i. pos 0)) ≡ 0
+unfolding answers
+direct-at-216 = refl
+
+-- a recording of one hop there, whose coefficients are played as they are, comes back as it was, whatever the buffer held
+pub ramp : List ℤ
+ramp = table 108 (λ i. pos (300 * i))
+
+ramp-samples : T (all (length ramp) (λ i. is-sample (at ramp i)))
+unfolding computed is-sample ramp
+ramp-samples = tt
+
+pub ramp-analysed : recordedCode Direct 216 1 ramp (replicate 216 (pos 9)) ≡ 0
+unfolding answers ramp
+ramp-analysed = refl
+
+pub ramp-played : (out : List ℤ) → length out ≡ 108 → playedCode 216 1 (recordedOut Direct 216 1 ramp (replicate 216 (pos 9))) out ≡ 0
+ramp-played = unchanged-taken 216 1 ramp (replicate 216 (pos 9)) (samples-of ramp ramp-samples) ramp-analysed
+
+pub ramp-back : (out : List ℤ) → length out ≡ 108 → playedOut 216 1 (recordedOut Direct 216 1 ramp (replicate 216 (pos 9))) out ≡ ramp
+ramp-back = unchanged-back 216 1 ramp (replicate 216 (pos 9)) (samples-of ramp ramp-samples) ramp-analysed
 
 knock-analysed : recordedCode Direct 12 1 knock (room ++ room) ≡ 0
 unfolding answers

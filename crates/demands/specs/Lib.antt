@@ -14,6 +14,7 @@ pub mod ListingAnswerLaws
 pub mod AnswerLaws
 pub mod DefinitionLaws
 pub mod DemandLaws
+pub mod UnchangedLaws
 pub mod Example
 pub mod ExampleLaws
 pub mod ListingLaws

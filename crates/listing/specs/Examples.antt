@@ -36,6 +36,8 @@ unfoldable pub examples : List Example
 examples =
     (document gives taken 12 3) ∷
     (ascii "72\n" gives taken 72 0) ∷
+    (ascii "108\n" gives taken 108 0) ∷
+    (ascii "216\n" gives taken 216 0) ∷
     -- line 1 is no number, or lacks its line feed
     (ascii "" gives refused 5 1) ∷
     (ascii "\n" gives refused 5 1) ∷
@@ -49,6 +51,10 @@ examples =
     -- a well-formed length that is not tabled, whatever stands behind it
     (ascii "-12\n" gives refused 1 1) ∷
     (ascii "0\n" gives refused 1 1) ∷
+    (ascii "107\n" gives refused 1 1) ∷
+    (ascii "144\n" gives refused 1 1) ∷
+    (ascii "217\n" gives refused 1 1) ∷
+    (ascii "432\n" gives refused 1 1) ∷
     (ascii "99999\n" gives refused 1 1) ∷
     (ascii "11\nx" gives refused 1 1) ∷
     -- a further line that is no hop

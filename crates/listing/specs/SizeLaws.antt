@@ -6,7 +6,6 @@ use Prim.Native.Nat.{ℕ, zero, suc, _+_, _*_, _/_, _≤_, _<_}
 use native.Mathlib.Nat.{mul-le-mul-left, mul-le-mul-right}
 use native.Mathlib.Omega.{arith}
 use native.Mathlib.Numerals.{add-one}
-use native.Mathlib.Decide.{ℕ-discrete}
 use lib.Dec.{T, eqb}
 use lib.ListN.{length, getD, length-append}
 use lib.IntN.{ℤ, natAbs}
@@ -15,7 +14,7 @@ use Rattle.arithmetic.specs.Lists as Entries
 use Rattle.arithmetic.specs.Lists.{at}
 use Rattle.arithmetic.specs.RoundingLaws.{sample-abs}
 use Rattle.cosine.specs.Kernels.{tabled}
-use Rattle.cosine.specs.LengthLaws.{last-length, length-of}
+use Rattle.cosine.specs.LengthLaws.{length-of}
 use Rattle.stream.specs.NextLaws.{returned-long}
 use Rattle.text.specs.Bytes.{lineFeed, comma}
 use Rattle.text.specs.Number.{decimal, printed}
@@ -106,13 +105,17 @@ room = 262144
 
 -- a header and H rows
 pub table-room : (N H : ℕ) → T (tabled N) → H * (N / 2 * 2) ≤ limit → 7 * (N / 2) + 4 + H * (7 * (N / 2) + 5) ≤ room
-table-room N H t h = go (ℕ-discrete N 12) (ℕ-discrete N 24) (ℕ-discrete N 36)
+table-room N H t h =
+    let l = length-of N t in
+    let m = N / 12 in
+    let e : N / 2 ≡ 6 * m = omega (arith, l .twelve) in
+    let few : m ≤ 18 = omega (arith, l .most) in
+    let some : 1 ≤ m = omega (arith, l .twelve, l .some) in
+    rw e (go m few some (rw e at h))
   where
-    go : Dec (N ≡ 12) → Dec (N ≡ 24) → Dec (N ≡ 36) → 7 * (N / 2) + 4 + H * (7 * (N / 2) + 5) ≤ room
-    go (yes e) b c = rw e (omega (arith, rw e at h))
-    go (no a) (yes e) c = rw e (omega (arith, rw e at h))
-    go (no a) (no b) (yes e) = rw e (omega (arith, rw e at h))
-    go (no a) (no b) (no c) = let e = last-length N t a b c in rw e (omega (arith, rw e at h))
+    -- by the multiples of 12: H × 12m bytes at least for the hops
+    go : (m : ℕ) → m ≤ 18 → 1 ≤ m → H * (6 * m * 2) ≤ limit → 7 * (6 * m) + 4 + H * (7 * (6 * m) + 5) ≤ room
+    go m few some h = omega (arith, mul-le-mul-left H some)
 
 module _ {text : List ℕ} {N H : ℕ} (K : Taken text N H) where
   -- the row of a hop

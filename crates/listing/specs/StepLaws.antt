@@ -1,7 +1,7 @@
 -- Laws of the steps of a taken listing: the hops that its lines bring, the block in its buffer, and the stream that each step is handed.
 use mathlib.Core.Path.{_≡_, sym, ap, _∙_}
 use mathlib.Core.List.{List, [], _++_}
-use Prim.Native.Nat.{ℕ, suc, _+_, _/_, _≤_, _<_}
+use Prim.Native.Nat.{ℕ, suc, _+_, _*_, _/_, _≤_, _<_}
 use native.Mathlib.Omega.{arith}
 use native.Mathlib.Decide.{decLt}
 use lib.Dec.{T}
@@ -11,7 +11,7 @@ use lib.IntN.{ℤ, pos}
 use Rattle.cosine.specs.Kernels.{tabled}
 use Rattle.cosine.specs.LengthLaws.{length-of, part-of}
 use Rattle.stream.specs.declared.Stream.{Stream}
-use Rattle.stream.specs.Synthesis.{fresh}
+use Rattle.stream.specs.Synthesis.{storage, fresh}
 use Rattle.stream.specs.Steps.{next, hop, streamAfter, returned}
 use Rattle.stream.specs.StepLaws.{Bounded}
 use Rattle.stream.specs.NextLaws.{Fine, stream-n}
@@ -63,32 +63,32 @@ module _ {text : List ℕ} {N H : ℕ} (K : Taken text N H) (b : ℕ) (p : b ≤
 -- ---- the steps of a taken listing
 -- where the step of block b is to come: the buffer's second hop is the block's first, the next line is its second, and the stream is at block b
 pub record Reached (text : List ℕ) (N H b : ℕ) (buffer : List ℤ) (place : ℕ) (s : Stream) : Type 0 where
-  pub room : length buffer ≡ 72
+  pub room : length buffer ≡ 2 * storage
   pub kept : drop (N / 2) (take N buffer) ≡ getD (around N (hopsOf text)) b []
   pub here : b ≤ H → place ≡ lineStart text (suc b)
   pub stream : s ≡ streamAfter N (analysed N (recording (hopsOf text))) b
 
 -- from zeros, line 2 and a fresh stream
-pub reached-first : {text : List ℕ} {N H : ℕ} → Taken text N H → (buffer : List ℤ) (place : ℕ) (s : Stream) → buffer ≡ replicate 72 (pos 0) → place ≡ nextLine text 0 → s ≡ fresh N →
+pub reached-first : {text : List ℕ} {N H : ℕ} → Taken text N H → (buffer : List ℤ) (place : ℕ) (s : Stream) → buffer ≡ replicate (2 * storage) (pos 0) → place ≡ nextLine text 0 → s ≡ fresh N →
     Reached text N H 0 buffer place s
 unfolding lineStart streamAfter silence
 reached-first {text} {N} K buffer place s is here stream = rw is (record {
-  room = length-replicate 72 (pos 0);
+  room = length-replicate (2 * storage) (pos 0);
   kept = zeros ∙ sym (around-first N (hopsOf text));
   here = λ p. here;
   stream = stream;
 })
   where
-    zeros : drop (N / 2) (take N (replicate 72 (pos 0))) ≡ replicate (N / 2) (pos 0)
+    zeros : drop (N / 2) (take N (replicate (2 * storage) (pos 0))) ≡ replicate (N / 2) (pos 0)
     zeros =
-        let z = replicate 72 (pos 0) in
-        let N≤ : N ≤ 72 = length-of N (K .length-tabled) .most in
+        let z = replicate (2 * storage) (pos 0) in
+        let N≤ : N ≤ 2 * storage = length-of N (K .length-tabled) .most in
         let two : N ≡ N / 2 + N / 2 = omega (arith, part-of N (K .length-tabled) .four) in
-        let l : length (drop (N / 2) (take N z)) ≡ N / 2 = length-drop (N / 2) (take N z) ∙ omega (arith, length-take-le N z (omega (arith, length-replicate 72 (pos 0)))) in
+        let l : length (drop (N / 2) (take N z)) ≡ N / 2 = length-drop (N / 2) (take N z) ∙ omega (arith, length-take-le N z (omega (arith, length-replicate (2 * storage) (pos 0)))) in
         ext-getD (pos 0) (drop (N / 2) (take N z)) (replicate (N / 2) (pos 0)) (l ∙ sym (length-replicate (N / 2) (pos 0)))
         (λ i p.
         let q : i < N / 2 = omega (arith, l) in
-        getD-drop (N / 2) (take N z) i (pos 0) ∙ getD-take N z (N / 2 + i) (pos 0) (omega arith) ∙ getD-replicate 72 (N / 2 + i) (pos 0) (pos 0) (omega arith)
+        getD-drop (N / 2) (take N z) i (pos 0) ∙ getD-take N z (N / 2 + i) (pos 0) (omega arith) ∙ getD-replicate (2 * storage) (N / 2 + i) (pos 0) (pos 0) (omega arith)
         ∙ sym (getD-replicate (N / 2) i (pos 0) (pos 0) q))
 
 module _ {text : List ℕ} {N H b : ℕ} {buffer : List ℤ} {place : ℕ} {s : Stream} (K : Taken text N H) (R : Reached text N H b buffer place s) (p : b ≤ H) where

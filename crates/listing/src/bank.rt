@@ -4,6 +4,7 @@ ghost use Prim.Native.Nat.{_+_, _*_, _/_, _≤_};
 ghost use lib.Dec.{T};
 ghost use lib.ListN.{length};
 ghost use Rattle.cosine.specs.Kernels.{tabled};
+ghost use Rattle.stream.specs.Synthesis.{storage};
 ghost use Rattle.stream.specs.StepLaws.{Bounded};
 ghost use Rattle.stream.specs.Steps.{next, hop};
 ghost use Rattle.analysis.specs.declared.Route.the-variants.{Direct};
@@ -22,13 +23,13 @@ const HOP: usize = stream::STORAGE;
 
 // Room for coefficients and for a hop.
 fn spectrum_room() -> [i32; HOP]
-    ensures { λ r. ⌜ length r ≡ 36 ⌝ }
+    ensures { λ r. ⌜ length r ≡ storage ⌝ }
 {
     [0; HOP]
 }
 
 fn hop_room() -> [i16; HOP]
-    ensures { λ r. ⌜ length r ≡ 36 ⌝ }
+    ensures { λ r. ⌜ length r ≡ storage ⌝ }
 {
     [0; HOP]
 }

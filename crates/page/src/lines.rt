@@ -60,7 +60,7 @@ fn put_line(b: usize, j: usize, x: &[i32], out: &mut [u8])
 
 // The lines of block b, x its coefficients.
 fn put_block(b: usize, lines: usize, x: &[i32], out: &mut [u8])
-    requires { ⌜ (b ≤ 4095) × (lines ≤ 6) × (length (now x) ≡ lines * 6) × Small (now x) (2 ^ 29) × (length (now out) ≡ lines * 81) ⌝ }
+    requires { ⌜ (b ≤ 4095) × (lines ≤ 18) × (length (now x) ≡ lines * 6) × Small (now x) (2 ^ 29) × (length (now out) ≡ lines * 81) ⌝ }
     ensures { λ _. ⌜ now (out .exit) ≡ joined lines (λ j. columns b (now (x .entry)) j ++ (lineFeed ∷ [])) ⌝ }
 {
     for j in 0..lines {

@@ -11,6 +11,7 @@ use Rattle.arithmetic.specs.Lists.{Small, joined}
 use Rattle.arithmetic.specs.ListLaws.{part-length, part-small}
 use Rattle.cosine.specs.Kernels.{tabled}
 use Rattle.cosine.specs.LengthLaws.{length-of}
+use Rattle.stream.specs.Synthesis.{storage}
 use Rattle.stream.specs.Steps.{streamAfter}
 use Rattle.stream.specs.NextLaws as S
 use Rattle.stream.specs.NextLaws.{Fine}
@@ -23,10 +24,10 @@ use Rattle.arithmetic.specs.JoinLaws.{joined-front, joined-same, within}
 -- ---- where block b lies
 pub record Lies (N B samples places b : ℕ) : Type 0 where
   pub two : N / 2 + N / 2 ≡ N
-  pub small : N ≤ 72
+  pub small : N ≤ 2 * storage
   pub ends : b * (N / 2) + N / 2 ≤ places
   pub covered : b * (N / 2) + N ≤ samples
-  pub few : b * (N / 2) ≤ 4095 * 36
+  pub few : b * (N / 2) ≤ 4095 * storage
 
 pub lies : (N : ℕ) → T (tabled N) → (B samples places b : ℕ) → B ≤ 4095 → samples ≡ (B + 1) * (N / 2) → places ≡ B * (N / 2) → b < B → Lies N B samples places b
 lies N t B samples places b most s p less =
@@ -34,7 +35,7 @@ lies N t B samples places b most s p less =
     let l = length-of N t in
     let two : m + m ≡ N = omega (arith, l .twelve) in
     let hb : b ≤ 4095 = omega arith in
-    let hm : m ≤ 36 = omega (arith, l .most) in
+    let hm : m ≤ storage = omega (arith, l .most) in
     let e : b * m + m ≤ places = omega (arith, within b B m less, p) in
     record {
       two = two;

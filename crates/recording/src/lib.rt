@@ -8,6 +8,7 @@ ghost use lib.ListN.{length, replicate};
 ghost use lib.IntN.{pos};
 ghost use Rattle.arithmetic.specs.Lists.{Small, joined};
 ghost use Rattle.cosine.specs.Kernels.{tabled};
+ghost use Rattle.stream.specs.Synthesis.{storage};
 ghost use Rattle.analysis.specs.Analysis.{offered, coefficients};
 ghost use Rattle.recording.specs.Recordings.{standing, analysis, synthesis};
 ghost use Rattle.recording.specs.BlockLaws.{edge};
@@ -18,7 +19,7 @@ pub const BLOCK: usize = 2 * stream::STORAGE;
 
 // Zeros, room for a block.
 pub fn silent_block() -> [i16; BLOCK]
-    ensures { λ r. ⌜ r ≡ replicate 72 (pos 0) ⌝ }
+    ensures { λ r. ⌜ r ≡ replicate (2 * storage) (pos 0) ⌝ }
 {
     [0; BLOCK]
 }

@@ -5,9 +5,6 @@ pub mod noise;
 ghost use Prim.Native.Nat.{_<_, _^_};
 use libc::STDOUT_FILENO;
 
-// The most entries of a buffer that are shown one by one.
-const SHORT: usize = 160;
-
 // A number with its sign.
 pub fn number(v: i64) {
     if v < 0 {
@@ -35,16 +32,17 @@ pub fn end() {
     io::write_all(STDOUT_FILENO, b"\n");
 }
 
-// A running sum with one more entry: a change of any one entry changes it.
-fn summed(h: u64, v: i64) -> u64
+// A running sum with one more entry: a change of any one entry of up to 32 bits changes it.
+pub fn summed(h: u64, v: i64) -> u64
     requires { ⌜ h < 2 ^ 32 ⌝ }
     ensures { λ r. ⌜ r < 2 ^ 32 ⌝ }
 {
-    let size = arithmetic::size(v) % 4294967296;
+    let size = arithmetic::size(v);
+    let entry = size / 4294967296 * 961 + size % 4294967296 * 2;
     if v < 0 {
-        return (h * 31 + size * 2 + 1) % 4294967296;
+        return (h * 31 + entry + 1) % 4294967296;
     }
-    (h * 31 + size * 2) % 4294967296
+    (h * 31 + entry) % 4294967296
 }
 
 fn sum_coefficients(c: &[i32]) -> u64 {
@@ -91,9 +89,9 @@ fn list_samples(x: &[i16]) {
     }
 }
 
-// The entries of a buffer, or the length and the sum of a long one, and the line's end.
-pub fn coefficients(c: &[i32]) {
-    if c.len() <= SHORT {
+// The entries of a buffer, or the length and the sum of one that has more than `most`, and the line's end.
+pub fn coefficients(c: &[i32], most: usize) {
+    if c.len() <= most {
         list_coefficients(c);
     } else {
         count(c.len());
@@ -102,8 +100,8 @@ pub fn coefficients(c: &[i32]) {
     end();
 }
 
-pub fn samples(x: &[i16]) {
-    if x.len() <= SHORT {
+pub fn samples(x: &[i16], most: usize) {
+    if x.len() <= most {
         list_samples(x);
     } else {
         count(x.len());

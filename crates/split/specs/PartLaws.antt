@@ -18,7 +18,8 @@ use Rattle.transform.specs.DirectLaws.{S-folds}
 use Rattle.transform.specs.Stages.{Input}
 use Rattle.tables.specs.HalfLaws.{riseList, fallList}
 use Rattle.tables.specs.LiftLists.{Lifted, liftList, baseList}
-use Rattle.transform.specs.LiftLaws.{lifted, lifted-length, lifted-is, raised, lowered, lowered-is}
+use Rattle.transform.specs.LiftLaws.{lifted, lifted-length, lifted-is, raised, lowered, folds-summed}
+use Rattle.transform.specs.LiftLaws as lifts
 use Rattle.split.specs.ShortRoute.{rB, A, B, G}
 use Rattle.split.specs.ShortFoldLaws.{middle, turnedC}
 use Rattle.split.specs.ShortSizeLaws.{middle-size, rB-size, turned-size}
@@ -79,9 +80,10 @@ module _ (N : ℕ) (y : ℕ → ℤ) (y≤ : (n : ℕ) → n < N → natAbs (y n
       go false false = turned-size N y y≤ n l
 
 -- ---- what the leaves of the split hand on to each other
--- the split is given N inputs y, windowed
+-- the split is given N inputs y, windowed, few enough for its sums to fit
 pub record Given (N : ℕ) (y : List ℤ) : Type 0 where
   pub whole : Length N
+  pub few : N ≤ 72
   pub part : Part (N / 3)
   pub all : length y ≡ N
   pub small : Small y (2 ^ 23)
@@ -104,7 +106,7 @@ pub record Third (k N : ℕ) (y w : List ℤ) : Type 0 where
 pub third-made : (k N : ℕ) (y w : List ℤ) → Given N y → w ≡ third k N (at y) → Third k N y w
 unfolding third
 third-made k N y w g h =
-    record { part = g .part; most = omega (arith, g .whole .most); is = h; small = rw h (table-small (N / 3) (2 ^ 26) (place k N (at y)) (λ i l. place-size N (at y) (λ j q. g .small .small j (rw (g .all) q)) k i l)) }
+    record { part = g .part; most = omega (arith, g .few); is = h; small = rw h (table-small (N / 3) (2 ^ 26) (place k N (at y)) (λ i l. place-size N (at y) (λ j q. g .small .small j (rw (g .all) q)) k i l)) }
 
 -- lifted inputs of a part of P, half as many
 pub record Ready (P : ℕ) (z : List ℤ) : Type 0 where
@@ -125,7 +127,7 @@ module _ (k N : ℕ) (y w : List ℤ) (t : Third k N y w) where
       let p : Part (length w) = subst Part (sym third-long) (t .part) in
       let s = table-small (length w / 2) (2 ^ 27) (folded (length w) (at w)) (folded-size (length w) p (2 ^ 26) (at w) (λ i q. t .small .small i q)) in
       rw e (record {
-        most = t .most;
+        most = omega (arith, t .most);
         long = length-table (folded (length w) (at w)) (length w / 2) ∙ ap (λ (n : ℕ). n / 2) third-long;
         small = record { small = λ i q. omega (arith, s .small i q) };
       })
@@ -190,10 +192,10 @@ module _ (P : ℕ) (p : Part P) (w : List ℤ) (long : length w ≡ P) where
 
   pub part-sums : (z base t s : List ℤ) → z ≡ inputs w → base ≡ baseList P → t ≡ table (length z) (raised z (liftList P)) →
       s ≡ table (length z) (lowered z base t) → s ≡ table (P / 2) (S P (at w))
-  unfolding inputs
+  unfolding inputs lifts.summed
   part-sums z base t s e b u h =
       let l : length (halved w) ≡ P / 2 = length-table (folded (length w) (at w)) (length w / 2) ∙ ap (λ (n : ℕ). n / 2) long in
-      halved-sums s (lowered-is P (halved w) z (liftList P) base t s l e refl b u h)
+      halved-sums s (rw (u, e) at h ∙ folds-summed P (halved w) (liftList P) base l refl b)
 
 -- their sums are A, B and G
 module _ (N : ℕ) (l : Length N) (t : Part (N / 3)) (y : ℕ → ℤ) (w s : List ℤ) (h : s ≡ table (N / 3 / 2) (S (N / 3) (at w))) where

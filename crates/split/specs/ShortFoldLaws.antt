@@ -1,13 +1,12 @@
 -- Laws: the sums A, B and G of the short route are those of a direct analysis of a third of the length.
-use mathlib.Core.Path.{_≡_, ap}
+use mathlib.Core.Path.{_≡_}
 use Prim.Native.Nat.{ℕ, _*_, _/_}
-use native.Mathlib.Nat.{eq-of-mul-eq-mul-right}
 use native.Mathlib.Omega.{arith}
 use lib.IntN.{ℤ, _+ℤ_, _-ℤ_, _*ℤ_, *ℤ-comm}
 use Rattle.arithmetic.specs.Sums.{sum}
 use Rattle.arithmetic.specs.SumLaws.{sum-ext}
-use Rattle.cosine.specs.Kernels.{d, K, L, turned}
-use Rattle.cosine.specs.LengthLaws.{Part, Length}
+use Rattle.cosine.specs.Kernels.{K, L, turned}
+use Rattle.cosine.specs.LengthLaws.{Part, Length, d-third}
 use Rattle.transform.specs.Analysis.{S}
 use Rattle.split.specs.ShortRoute.{a, b, c, rC}
 
@@ -19,17 +18,12 @@ abbrev pub turnedC : ℕ → (ℕ → ℤ) → ℕ → ℤ
 turnedC N y n = turned N n (rC N y n)
 
 module _ (N : ℕ) (l : Length N) (t : Part (N / 3)) where
-  d-part : d (N / 3) ≡ 3 * d N
-  d-part =
-      let n : N ≡ 3 * (N / 3) = omega (arith, l .twelve) in
-      eq-of-mul-eq-mul-right (N / 3) (t .some) (d (N / 3)) (3 * d N) (omega (arith, t .parts, l .parts, ap (λ (x : ℕ). d N * x) n))
-
   -- the short kernel is the kernel of a third of the length
   L-part : (n k : ℕ) → L N n k ≡ K (N / 3) n k
   unfolding L K
   L-part n k =
       let i : N / 3 / 2 ≡ N / 6 = omega arith in
-      rw (d-part, i)
+      rw (d-third N l, i)
 
   -- a sum over the short kernel is the direct sum of a third of the length
   pub third-sum : (w : ℕ → ℤ) (k : ℕ) → sum (N / 3) (λ n. L N n k *ℤ w n) ≡ S (N / 3) w k

@@ -13,14 +13,13 @@ use Rattle.arithmetic.specs.RingLaws.{*ℤ-negℤ, negℤ-*ℤ}
 use Rattle.arithmetic.specs.OrderLaws.{bounds, posbounds, abs-neg}
 use Rattle.arithmetic.specs.RoundingLaws.{rnd-near}
 use Rattle.arithmetic.specs.SumLaws.{sum-ext, sum-add, sum-sub, sum-neg, sum-scale, sum-split, sum-rev, sum-abs}
-use Rattle.cosine.specs.Cosine.{quarter}
 use Rattle.cosine.specs.Kernels.{K, L, eB, fB, eC, fC, turned}
 use Rattle.cosine.specs.LengthLaws.{length-of}
 use Rattle.cosine.specs.KernelLaws.{L-size}
 use Rattle.cosine.specs.SplitLaws.{K-third-a, K-third-b, K-third-c, Split-at, split-plus, split-minus, L′, L′-size, turned-mul}
 use Rattle.transform.specs.Analysis.{S, X}
 use Rattle.split.specs.ShortRoute.{offered, a, b, c, e, f, rB, rC, A, B, G, D, shortX, units}
-use Rattle.split.specs.OfferLaws.{offered-tabled}
+use Rattle.split.specs.OfferLaws.{offered-tabled, offered-short, offered-most}
 use Rattle.split.specs.ShortSizeLaws.{a-size, b-size, c-size}
 use Rattle.split.specs.TripleLaws.{made, off≤}
 
@@ -136,17 +135,17 @@ module _ (N : ℕ) (o : T (offered N)) where
             ∙ ap negℤ (sym D-is)
 
         plus-near : k < N / 6 → natAbs (B N y k +ℤ D N y k -ℤ pos 2 *ℤ S N y (3 * k)) ≤ N / 3 * (17 * 2 ^ 23)
-        plus-near q = rw D-is (outer k (3 * k) (L′ N k) (L′-size N k) (λ n p. split-plus N (offered-tabled N o) n k p q))
+        plus-near q = rw D-is (outer k (3 * k) (L′ N k) (L′-size N k) (λ n p. split-plus N (offered-short N o) n k p q))
 
         minus-near : k < N / 6 → natAbs (B N y k -ℤ D N y k -ℤ pos 2 *ℤ S N y (3 * k + 2)) ≤ N / 3 * (17 * 2 ^ 23)
-        minus-near q = rw D-other at (outer k (3 * k + 2) (λ n. negℤ (L′ N k n)) (λ n. rw (abs-neg (L′ N k n)) (L′-size N k n)) (λ n p. split-minus N (offered-tabled N o) n k p q))
+        minus-near q = rw D-other at (outer k (3 * k + 2) (λ n. negℤ (L′ N k n)) (λ n. rw (abs-neg (L′ N k n)) (L′-size N k n)) (λ n p. split-minus N (offered-short N o) n k p q))
 
       -- ---- rounded, which adds less than 1
       rounded : (i : ℕ) (E : ℤ) → natAbs (E -ℤ pos 2 *ℤ S N y i) ≤ N / 3 * (17 * 2 ^ 23) → natAbs (rnd E (2 ^ 29) -ℤ X N y i) ≤ 7
       unfolding X
-      rounded i E h = go (N / 3) (S N y i) E (X N y i) (rnd E (2 ^ 29)) (omega (arith, length-of N (offered-tabled N o) .most)) h (rnd-near (S N y i) {b = 2 ^ 28} (lit< tt)) (rnd-near E {b = 2 ^ 29} (lit< tt))
+      rounded i E h = go (N / 3) (S N y i) E (X N y i) (rnd E (2 ^ 29)) (omega (arith, offered-most N o)) h (rnd-near (S N y i) {b = 2 ^ 28} (lit< tt)) (rnd-near E {b = 2 ^ 29} (lit< tt))
         where
-          go : (t : ℕ) (S E X Z : ℤ) → t ≤ quarter / 3 → natAbs (E -ℤ pos 2 *ℤ S) ≤ t * (17 * 2 ^ 23) → natAbs (pos (2 ^ 28) *ℤ X -ℤ S) ≤ 2 ^ 27 → natAbs (pos (2 ^ 29) *ℤ Z -ℤ E) ≤ 2 ^ 28 →
+          go : (t : ℕ) (S E X Z : ℤ) → t ≤ 24 → natAbs (E -ℤ pos 2 *ℤ S) ≤ t * (17 * 2 ^ 23) → natAbs (pos (2 ^ 28) *ℤ X -ℤ S) ≤ 2 ^ 27 → natAbs (pos (2 ^ 29) *ℤ Z -ℤ E) ≤ 2 ^ 28 →
               natAbs (Z -ℤ X) ≤ 7
           go t S E X Z p h x z = simp posbounds (omega (arith, simp posbounds at h, simp posbounds at x, simp posbounds at z))
 

@@ -8,11 +8,11 @@ use lib.IntN.{ℤ, pos, _+ℤ_, _-ℤ_, _*ℤ_}
 use Rattle.arithmetic.specs.Rounding.{rnd}
 use Rattle.arithmetic.specs.Sums.{sum}
 use Rattle.arithmetic.specs.Lists.{table}
-use Rattle.cosine.specs.Kernels.{tabled, L, eB, fB, eC, fC, turned}
+use Rattle.cosine.specs.Kernels.{shortTabled, L, eB, fB, eC, fC, turned}
 
--- the lengths at which the short route is offered: every tabled one
+-- the lengths at which the short route is offered: document 01's four. P4's two are not offered
 unfoldable pub offered : ℕ → Bool
-offered N = tabled N
+offered N = shortTabled N
 
 -- for n from 0 to N/3 - 1
 unfoldable pub a : ℕ → (ℕ → ℤ) → ℕ → ℤ

@@ -157,7 +157,7 @@ module _ (N : ℕ) (u v : ℕ → ℤ) (same : (n : ℕ) → n < N → u n ≡ v
 
 -- ---- what the code has at the end
 -- the lists of the split, their lengths and sizes
-module _ (N : ℕ) (l : Length N) (y : ℕ → ℤ) (y≤ : (n : ℕ) → n < N → natAbs (y n) ≤ 2 ^ 23) (middle plus minus : List ℤ) (u : Unrounded N y middle plus minus) where
+module _ (N : ℕ) (few : N ≤ 72) (y : ℕ → ℤ) (y≤ : (n : ℕ) → n < N → natAbs (y n) ≤ 2 ^ 23) (middle plus minus : List ℤ) (u : Unrounded N y middle plus minus) where
   pub middle-length : length middle ≡ N / 6
   middle-length = ap length (u .middle-is) ∙ length-table (A N y) (N / 6)
 
@@ -168,13 +168,13 @@ module _ (N : ℕ) (l : Length N) (y : ℕ → ℤ) (y≤ : (n : ℕ) → n < N 
   minus-length = ap length (u .minus-is) ∙ length-table (λ k. B N y k -ℤ D N y k) (N / 6)
 
   pub middle-small : Small middle (2 ^ 58)
-  middle-small = rw (u .middle-is) (table-small (N / 6) (2 ^ 58) (A N y) (λ k p. omega (arith, A-size N y y≤ k, l .most)))
+  middle-small = rw (u .middle-is) (table-small (N / 6) (2 ^ 58) (A N y) (λ k p. omega (arith, A-size N y y≤ k, few)))
 
   pub plus-small : Small plus (2 ^ 58)
-  plus-small = rw (u .plus-is) (table-small (N / 6) (2 ^ 58) (λ k. B N y k +ℤ D N y k) (λ k p. omega (arith, plus-size N y y≤ k, l .most)))
+  plus-small = rw (u .plus-is) (table-small (N / 6) (2 ^ 58) (λ k. B N y k +ℤ D N y k) (λ k p. omega (arith, plus-size N y y≤ k, few)))
 
   pub minus-small : Small minus (2 ^ 58)
-  minus-small = rw (u .minus-is) (table-small (N / 6) (2 ^ 58) (λ k. B N y k -ℤ D N y k) (λ k p. omega (arith, minus-size N y y≤ k, l .most)))
+  minus-small = rw (u .minus-is) (table-small (N / 6) (2 ^ 58) (λ k. B N y k -ℤ D N y k) (λ k p. omega (arith, minus-size N y y≤ k, few)))
 
 pub windowed-step : (N : ℕ) (x : List ℤ) (n : ℕ) (left right block : List ℤ) → n ≡ N → left ≡ riseList N → right ≡ fallList N →
     block ≡ table n (y n (at left) (at right) x) → block ≡ table N (y N (at (riseList N)) (at (fallList N)) x)

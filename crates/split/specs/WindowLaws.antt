@@ -15,11 +15,10 @@ use Rattle.arithmetic.specs.IntegerLaws.{pp, np, posints}
 use Rattle.arithmetic.specs.RoundingLaws.{floor-is, floor-unique, rnd-after}
 use Rattle.arithmetic.specs.ListLaws.{length-table, table-ext, part-at}
 use Rattle.cosine.specs.Kernels.{rising, falling}
-use Rattle.cosine.specs.LengthLaws.{Length}
+use Rattle.cosine.specs.LengthLaws.{Length, whole-part}
 use Rattle.cosine.specs.KernelLaws.{W-low}
 use Rattle.transform.specs.Analysis.{y}
 use Rattle.transform.specs.HopLaws.{windowed, y-first, y-second}
-use Rattle.split.specs.OfferLaws.{whole-part}
 use Rattle.tables.specs.HalfLaws.{riseList, fallList, rise-length, rise-at, rise-small, fall-length, fall-at, fall-small, Lent}
 
 -- no entry is below zero

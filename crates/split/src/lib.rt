@@ -1,27 +1,44 @@
 // The short route's analysis of one block of a length at which it is offered, valid by its requires. Definitions are in specs/.
-// No function here is a public call: `recording` calls `analyse`, after every check of the public calls.
+// No function here is a public call: the bodies of `analysis` call the leaves, after every check of the public calls, and `checks` asks `is_offered`.
 mod block;
 pub mod parts;
 pub mod thirds;
 
 ghost use mathlib.Core.Path.{_≡_};
-ghost use Prim.Native.Nat.{_/_};
+ghost use Prim.Native.Nat.{_/_, _≤_};
 ghost use lib.ListN.{length};
 ghost use Rattle.arithmetic.specs.Lists.{at};
 ghost use Rattle.cosine.specs.Kernels.{rising, falling};
 ghost use Rattle.transform.specs.Analysis.{y};
 ghost use Rattle.tables.specs.HalfLaws.{Lent};
-ghost use Rattle.split.specs.ShortRoute.{Unrounded, short};
+ghost use Rattle.split.specs.ShortRoute.{offered, Unrounded, short};
 ghost use Rattle.split.specs.PartLaws.{Windowed};
 
 // From this length on products of lifted numbers and of 16 bits pay, which the vector unit makes several at a time. Products of shorter blocks are of
 // 64 bits.
 const LONG: usize = 36;
 
+// The lengths at which the short route is offered.
+pub fn is_offered(n: usize) -> bool
+    ensures { λ r. ⌜ r ≡ offered n ⌝ }
+{
+    if n == 12 {
+        return true;
+    }
+    if n == 24 {
+        return true;
+    }
+    if n == 36 {
+        return true;
+    }
+    n == 72
+}
+
 // The block, windowed. The length's window is lent.
 // A length's function calls this, its split and the next one by itself, so that the compiler knows every count.
 pub fn windowed_block(n: usize, left: &[i32], right: &[i32], x: &[i16], block: &mut [i32])
     requires { ⌜ Lent n (now left) (now right) ⌝ }
+    requires { ⌜ n ≤ 72 ⌝ }
     requires { ⌜ length (now x) ≡ n ⌝ }
     requires { ⌜ length (now block) ≡ n ⌝ }
     ensures { λ _. ⌜ Windowed n (now (x .entry)) (now (block .exit)) ⌝ }

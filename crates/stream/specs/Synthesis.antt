@@ -10,7 +10,7 @@ use Rattle.stream.specs.declared.Stream.{Stream}
 
 -- entries of a tail
 abbrev pub storage : ℕ
-storage = 36
+storage = 108
 
 -- a fresh stream has a tail of zeros
 unfoldable pub fresh : ℕ → Stream

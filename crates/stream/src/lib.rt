@@ -15,7 +15,7 @@ ghost use Rattle.stream.specs.Synthesis.{storage, fresh, hop, newTail};
 ghost use Rattle.stream.specs.StepLaws.{Held, Step};
 
 // Entries of a tail: a hop of the longest block.
-pub const STORAGE: usize = 36;
+pub const STORAGE: usize = 108;
 
 // A stream, document 01's term: the block length N and a tail of M whole numbers. Storage from M on is zero when fresh, and kept.
 pub struct Stream {

@@ -53,6 +53,26 @@ fn advance_72(x: &[i32], tail: &mut [i64], out: &mut [i16])
     stream::settle(72, x, &v, tail, out);
 }
 
+fn advance_108(x: &[i32], tail: &mut [i64], out: &mut [i16])
+    requires { ⌜ Step 108 (now x) (now tail) (now out) ⌝ }
+    ensures { λ _. ⌜ now (tail .exit) ≡ newTail 108 (rising 108) (falling 108) (now (tail .entry)) (now (x .entry)) ⌝ }
+    ensures { λ _. ⌜ now (out .exit) ≡ hop 108 (rising 108) (falling 108) (now (tail .entry)) (now (x .entry)) ⌝ }
+{
+    let mut v = [0i64; 108];
+    inverse::inverse_108(x, &mut v);
+    stream::settle(108, x, &v, tail, out);
+}
+
+fn advance_216(x: &[i32], tail: &mut [i64], out: &mut [i16])
+    requires { ⌜ Step 216 (now x) (now tail) (now out) ⌝ }
+    ensures { λ _. ⌜ now (tail .exit) ≡ newTail 216 (rising 216) (falling 216) (now (tail .entry)) (now (x .entry)) ⌝ }
+    ensures { λ _. ⌜ now (out .exit) ≡ hop 216 (rising 216) (falling 216) (now (tail .entry)) (now (x .entry)) ⌝ }
+{
+    let mut v = [0i64; 216];
+    inverse::inverse_216(x, &mut v);
+    stream::settle(216, x, &v, tail, out);
+}
+
 // One step on valid input, in place: the hop into `out`, and the new tail in `tail`.
 pub fn advance_tail(n: usize, x: &[i32], tail: &mut [i64], out: &mut [i16])
     requires { ⌜ Valid n (now x) (now tail) (now out) ⌝ }
@@ -71,7 +91,15 @@ pub fn advance_tail(n: usize, x: &[i32], tail: &mut [i64], out: &mut [i16])
         advance_36(&x[..18], tail, out);
         return;
     }
-    advance_72(&x[..36], tail, out);
+    if n == 72 {
+        advance_72(&x[..36], tail, out);
+        return;
+    }
+    if n == 108 {
+        advance_108(&x[..54], tail, out);
+        return;
+    }
+    advance_216(&x[..108], tail, out);
 }
 
 // One step on valid input: the hop into `out`, and the stream to go on with.

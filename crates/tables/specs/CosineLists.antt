@@ -33,7 +33,7 @@ module _ (c : ℕ → ℕ → ℤ) (N : ℕ) where
       back : (z : ℤ) → z +ℤ pos (2 ^ 27) -ℤ pos (2 ^ 27) ≡ z
       back z = simp ints (omega arith)
 
--- ---- the same read from the table of 73 numbers, which computes
+-- ---- the same read from the table of 217 numbers, which computes
 -- the numbers that v gives for the angle s
 unfoldable pub lent : (ℕ → ℤ) → ℕ → List ℤ
 lent v N = table (N / 3) (λ n. v (s N n) +ℤ pos (2 ^ 27))

@@ -19,7 +19,7 @@ riseList N = table (N / 2) (rising N)
 unfoldable pub fallList : ℕ → List ℤ
 fallList N = table (N / 2) (falling N)
 
--- ---- the same read from the table of 73 numbers, which computes
+-- ---- the same read from the table of 217 numbers, which computes
 unfoldable pub riseNumbers : ℕ → List ℤ
 riseNumbers N = table (N / 2) (λ n. tableC (pos (d N) *ℤ (pos N -ℤ pos (2 * n + 1))))
 

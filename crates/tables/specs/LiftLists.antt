@@ -6,7 +6,7 @@ use Prim.Native.Nat.{ℕ, _+_, _*_, _/_, _%_, _^_, _≤_, _<_}
 use native.Mathlib.Nat.{mul-add-div-right, div-eq-of-lt, mul-add-mod-self-right, mod-eq-of-lt, mul-le-mul-right}
 use native.Mathlib.Omega.{arith}
 use lib.ListN.{length}
-use lib.IntN.{ℤ, pos, natAbs, _+ℤ_}
+use lib.IntN.{ℤ, pos, natAbs, _+ℤ_, _-ℤ_}
 use lib.Signed.{_≤ℤ_}
 use Rattle.arithmetic.specs.Sums.{sum}
 use Rattle.arithmetic.specs.Lists.{at, table}
@@ -30,62 +30,102 @@ sign-up z B h = let k = simp bounds at h in simp ints (omega zarith)
 pub size-up : (z : ℤ) (B : ℕ) → natAbs z ≤ B → natAbs (z +ℤ pos B) ≤ 2 * B
 size-up z B h = let k = simp bounds at h in simp bounds (omega zarith)
 
--- the folded kernel, lifted by 2^26: entry j M + k is F(k,j) + 2^26, and the sum over j of F(k,j)
-unfoldable pub liftList : ℕ → List ℤ
-liftList N = table (N / 2 * (N / 2)) (λ i. F N (i % (N / 2)) (i / (N / 2)) +ℤ pos (2 ^ 26))
+-- and the other way: a number of 0 .. 2 B, once B is taken off
+pub size-down : (z : ℤ) (B : ℕ) → pos 0 ≤ℤ z → natAbs z ≤ 2 * B → natAbs (z -ℤ pos B) ≤ B
+size-down z B p h = let k = simp bounds at h in simp bounds (omega (arith, simp ints at p))
 
-unfoldable pub baseList : ℕ → List ℤ
-baseList N = table (N / 2) (λ k. sum (N / 2) (λ j. F N k j))
+-- ---- a kernel f of m × m, lifted by 2^26: entry j m + k is f(k,j) + 2^26, and the sum over j of f(k,j)
+unfoldable pub liftOf : ℕ → (ℕ → ℕ → ℤ) → List ℤ
+liftOf m f = table (m * m) (λ i. f (i % m) (i / m) +ℤ pos (2 ^ 26))
 
--- the same read from the table of 73 numbers, which computes
-unfoldable pub liftNumbers : ℕ → List ℤ
-liftNumbers N = table (N / 2 * (N / 2)) (λ i. tableC (pos (d N * (2 * (i % (N / 2)) + 1) * (2 * (i / (N / 2)) + 1))) +ℤ pos (2 ^ 26))
-
-unfoldable pub baseNumbers : ℕ → List ℤ
-baseNumbers N = table (N / 2) (λ k. sum (N / 2) (λ j. tableC (pos (d N * (2 * k + 1) * (2 * j + 1)))))
-
-pub lift-numbers : (N : ℕ) → liftNumbers N ≡ liftList N
-unfolding liftNumbers liftList F
-lift-numbers N =
-    table-ext (N / 2 * (N / 2)) (λ i. tableC (pos (d N * (2 * (i % (N / 2)) + 1) * (2 * (i / (N / 2)) + 1))) +ℤ pos (2 ^ 26)) (λ i. F N (i % (N / 2)) (i / (N / 2)) +ℤ pos (2 ^ 26))
-    (λ i p. ap (λ (z : ℤ). z +ℤ pos (2 ^ 26)) (sym (C-table (pos (d N * (2 * (i % (N / 2)) + 1) * (2 * (i / (N / 2)) + 1))))))
-
-pub base-numbers : (N : ℕ) → baseNumbers N ≡ baseList N
-unfolding baseNumbers baseList F
-base-numbers N =
-    table-ext (N / 2) (λ k. sum (N / 2) (λ j. tableC (pos (d N * (2 * k + 1) * (2 * j + 1))))) (λ k. sum (N / 2) (λ j. F N k j))
-    (λ k p. sum-ext (N / 2) (λ j. tableC (pos (d N * (2 * k + 1) * (2 * j + 1)))) (λ j. F N k j) (λ j q. sym (C-table (pos (d N * (2 * k + 1) * (2 * j + 1))))))
-
-pub lift-length : (N : ℕ) → length (liftList N) ≡ N / 2 * (N / 2)
-unfolding liftList
-lift-length N = length-table (λ i. F N (i % (N / 2)) (i / (N / 2)) +ℤ pos (2 ^ 26)) (N / 2 * (N / 2))
-
-pub base-length : (N : ℕ) → length (baseList N) ≡ N / 2
-unfolding baseList
-base-length N = length-table (λ k. sum (N / 2) (λ j. F N k j)) (N / 2)
+unfoldable pub baseOf : ℕ → (ℕ → ℕ → ℤ) → List ℤ
+baseOf m f = table m (λ k. sum m (λ j. f k j))
 
 pub place : (m j k : ℕ) → j < m → k < m → j * m + k < m * m
 place m j k p q = omega (arith, mul-le-mul-right m p)
 
+module _ (m : ℕ) (f : ℕ → ℕ → ℤ) where
+  -- the same read from another kernel with the same numbers, as one that computes
+  pub lift-same : (g : ℕ → ℕ → ℤ) → ((k j : ℕ) → f k j ≡ g k j) → liftOf m f ≡ liftOf m g
+  unfolding liftOf
+  lift-same g e =
+      table-ext (m * m) (λ i. f (i % m) (i / m) +ℤ pos (2 ^ 26)) (λ i. g (i % m) (i / m) +ℤ pos (2 ^ 26)) (λ i p. ap (λ (z : ℤ). z +ℤ pos (2 ^ 26)) (e (i % m) (i / m)))
+
+  pub base-same : (g : ℕ → ℕ → ℤ) → ((k j : ℕ) → f k j ≡ g k j) → baseOf m f ≡ baseOf m g
+  unfolding baseOf
+  base-same g e = table-ext m (λ k. sum m (λ j. f k j)) (λ k. sum m (λ j. g k j)) (λ k p. sum-ext m (λ j. f k j) (λ j. g k j) (λ j q. e k j))
+
+  pub lift-of-length : length (liftOf m f) ≡ m * m
+  unfolding liftOf
+  lift-of-length = length-table (λ i. f (i % m) (i / m) +ℤ pos (2 ^ 26)) (m * m)
+
+  pub base-of-length : length (baseOf m f) ≡ m
+  unfolding baseOf
+  base-of-length = length-table (λ k. sum m (λ j. f k j)) m
+
+  pub lift-of-at : (j k : ℕ) → j < m → k < m → at (liftOf m f) (j * m + k) ≡ f k j +ℤ pos (2 ^ 26)
+  unfolding liftOf
+  lift-of-at j k p q =
+      let quot : (j * m + k) / m ≡ j = mul-add-div-right {m = m} (omega arith) j k ∙ omega (arith, div-eq-of-lt q) in
+      let rem : (j * m + k) % m ≡ k = mul-add-mod-self-right j m k ∙ mod-eq-of-lt q in
+      getD-table (λ i. f (i % m) (i / m) +ℤ pos (2 ^ 26)) (pos 0) (m * m) (j * m + k) (place m j k p q) ∙ rw (quot, rem)
+
+  pub base-of-at : (k : ℕ) → k < m → at (baseOf m f) k ≡ sum m (λ j. f k j)
+  unfolding baseOf
+  base-of-at k p = getD-table (λ k. sum m (λ j. f k j)) (pos 0) m k p
+
+  pub lift-of-is : ((k j : ℕ) → natAbs (f k j) ≤ 2 ^ 26) → Lifted (liftOf m f) (2 ^ 27)
+  unfolding liftOf
+  lift-of-is small =
+      let e : (i : ℕ) → i < length (liftOf m f) → at (liftOf m f) i ≡ f (i % m) (i / m) +ℤ pos (2 ^ 26) =
+      λ i p. getD-table (λ i. f (i % m) (i / m) +ℤ pos (2 ^ 26)) (pos 0) (m * m) i (omega (arith, lift-of-length))
+      in
+      record {
+        sign = λ i p. rw (e i p) (sign-up (f (i % m) (i / m)) (2 ^ 26) (small (i % m) (i / m)));
+        size = λ i p. rw (e i p) (size-up (f (i % m) (i / m)) (2 ^ 26) (small (i % m) (i / m)));
+      }
+
+-- ---- the folded kernel
+unfoldable pub liftList : ℕ → List ℤ
+liftList N = liftOf (N / 2) (F N)
+
+unfoldable pub baseList : ℕ → List ℤ
+baseList N = baseOf (N / 2) (F N)
+
+-- the same read from the table of 217 numbers, which computes
+abbrev tableF : ℕ → ℕ → ℕ → ℤ
+tableF N j k = tableC (pos (d N * (2 * j + 1) * (2 * k + 1)))
+
+unfoldable pub liftNumbers : ℕ → List ℤ
+liftNumbers N = liftOf (N / 2) (tableF N)
+
+unfoldable pub baseNumbers : ℕ → List ℤ
+baseNumbers N = baseOf (N / 2) (tableF N)
+
+table-is : (N j k : ℕ) → tableF N j k ≡ F N j k
+unfolding F
+table-is N j k = sym (C-table (pos (d N * (2 * j + 1) * (2 * k + 1))))
+
+pub lift-numbers : (N : ℕ) → liftNumbers N ≡ liftList N
+unfolding liftNumbers liftList
+lift-numbers N = lift-same (N / 2) (tableF N) (F N) (table-is N)
+
+pub base-numbers : (N : ℕ) → baseNumbers N ≡ baseList N
+unfolding baseNumbers baseList
+base-numbers N = base-same (N / 2) (tableF N) (F N) (table-is N)
+
+pub lift-length : (N : ℕ) → length (liftList N) ≡ N / 2 * (N / 2)
+unfolding liftList
+lift-length N = lift-of-length (N / 2) (F N)
+
+pub base-length : (N : ℕ) → length (baseList N) ≡ N / 2
+unfolding baseList
+base-length N = base-of-length (N / 2) (F N)
+
 pub lift-at : (N j k : ℕ) → j < N / 2 → k < N / 2 → at (liftList N) (j * (N / 2) + k) ≡ F N k j +ℤ pos (2 ^ 26)
 unfolding liftList
-lift-at N j k p q =
-    let m = N / 2 in
-    let quot : (j * m + k) / m ≡ j = mul-add-div-right {m = m} (omega arith) j k ∙ omega (arith, div-eq-of-lt q) in
-    let rem : (j * m + k) % m ≡ k = mul-add-mod-self-right j m k ∙ mod-eq-of-lt q in
-    getD-table (λ i. F N (i % m) (i / m) +ℤ pos (2 ^ 26)) (pos 0) (m * m) (j * m + k) (place m j k p q) ∙ rw (quot, rem)
-
-pub base-at : (N k : ℕ) → k < N / 2 → at (baseList N) k ≡ sum (N / 2) (λ j. F N k j)
-unfolding baseList
-base-at N k p = getD-table (λ k. sum (N / 2) (λ j. F N k j)) (pos 0) (N / 2) k p
+lift-at N = lift-of-at (N / 2) (F N)
 
 pub lift-is : (N : ℕ) → Lifted (liftList N) (2 ^ 27)
 unfolding liftList
-lift-is N =
-    let e : (i : ℕ) → i < length (liftList N) → at (liftList N) i ≡ F N (i % (N / 2)) (i / (N / 2)) +ℤ pos (2 ^ 26) =
-    λ i p. getD-table (λ i. F N (i % (N / 2)) (i / (N / 2)) +ℤ pos (2 ^ 26)) (pos 0) (N / 2 * (N / 2)) i (omega (arith, lift-length N))
-    in
-    record {
-      sign = λ i p. rw (e i p) (sign-up (F N (i % (N / 2)) (i / (N / 2))) (2 ^ 26) (F-size N (i % (N / 2)) (i / (N / 2))));
-      size = λ i p. rw (e i p) (size-up (F N (i % (N / 2)) (i / (N / 2))) (2 ^ 26) (F-size N (i % (N / 2)) (i / (N / 2))));
-    }
+lift-is N = lift-of-is (N / 2) (F N) (F-size N)

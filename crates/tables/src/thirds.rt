@@ -1,8 +1,8 @@
-// The lifted kernel of the thirds of 12 and 24 (those of 36 and 72 are lengths themselves), and the cosines beside e and f in rB(n)
+// The lifted kernel of the thirds of 12 and 24 (those of 36 and more are lengths themselves), with BASE_8 for the sums of a block of 24, and the cosines beside e and f in rB(n)
 // and rC(n), n from 0 to N/3 - 1, each with 2^27 added, so that none is negative; fB with its sign changed first.
 ghost use mathlib.Core.Path.{_≡_};
 ghost use Rattle.cosine.specs.Kernels.{eB, fB, eC, fC};
-ghost use Rattle.tables.specs.LiftLists.{liftList};
+ghost use Rattle.tables.specs.LiftLists.{liftList, baseList};
 ghost use Rattle.tables.specs.CosineLists.{cosines, negated};
 
 const ROWS_4: [i32; 4] = [129109370, 92790314, 92790314, 5108358];
@@ -25,6 +25,8 @@ const ROWS_8: [i32; 16] = [
     122907845,
     1289478,
 ];
+
+const BASE_8: [i32; 4] = [171994344, -60396382, 40355572, -34211802];
 
 const EB_12: [i32; 4] = [151586780, 181670861, 199039913, 199039913];
 
@@ -256,6 +258,12 @@ pub fn rows_8() -> [i32; 16]
     ensures { λ r. ⌜ r ≡ liftList 8 ⌝ }
 {
     ROWS_8
+}
+
+pub fn base_8() -> [i32; 4]
+    ensures { λ r. ⌜ r ≡ baseList 8 ⌝ }
+{
+    BASE_8
 }
 
 pub fn eb_12() -> [i32; 4]

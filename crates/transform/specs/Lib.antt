@@ -7,3 +7,4 @@ pub mod DirectLaws
 pub mod InverseLaws
 pub mod LiftLaws
 pub mod Stages
+pub mod ThirdLaws

@@ -16,7 +16,7 @@ use Rattle.arithmetic.specs.ListLaws.{length-table, getD-table, table-ext}
 use Rattle.cosine.specs.Kernels.{F}
 use Rattle.cosine.specs.KernelLaws.{F-size}
 use Rattle.transform.specs.InverseLaws.{folds}
-use Rattle.tables.specs.LiftLists.{Lifted, sign-up, size-up, liftList, baseList, place, lift-at, base-at}
+use Rattle.tables.specs.LiftLists.{Lifted, sign-up, size-up, liftOf, baseOf, liftList, baseList, place, lift-of-at, base-of-at}
 
 -- a sum's inputs, lifted by 2^29
 unfoldable pub lifted : List ℤ → List ℤ
@@ -80,38 +80,51 @@ raised-small z rows l most u v =
 unfoldable pub lowered : List ℤ → List ℤ → List ℤ → ℕ → ℤ
 lowered z base t k = at t k -ℤ pos (2 ^ 26) *ℤ sum (length z) (at z) -ℤ pos (2 ^ 29) *ℤ at base k
 
-pub lowered-is : (N : ℕ) (x z rows base t s : List ℤ) → length x ≡ N / 2 → z ≡ lifted x → rows ≡ liftList N → base ≡ baseList N →
-    t ≡ table (length z) (raised z rows) → s ≡ table (length z) (lowered z base t) → s ≡ table (N / 2) (folds N x)
-unfolding folds raised lowered
-lowered-is N x z rows base t s l e r b u h =
-    let m = N / 2 in
-    let long : length z ≡ m = ap length e ∙ lifted-length x ∙ l in
-    let input : (j : ℕ) → j < m → at z j ≡ at x j +ℤ pos (2 ^ 29) = λ j p. ap (λ (w : List ℤ). at w j) e ∙ lifted-at x j (rw l p) in
-    let each : (k : ℕ) → k < m → at t k -ℤ pos (2 ^ 26) *ℤ sum m (at z) -ℤ pos (2 ^ 29) *ℤ at base k ≡ sum m (λ j. at x j *ℤ F N k j) =
+-- what sums by lifted numbers give of x, with a kernel of m × m and the sums of its numbers
+unfoldable pub summed : List ℤ → List ℤ → List ℤ → List ℤ
+summed x rows base = table (length (lifted x)) (lowered (lifted x) base (table (length (lifted x)) (raised (lifted x) rows)))
+
+-- they are the sums with that kernel, f
+pub summed-is : (m : ℕ) (f : ℕ → ℕ → ℤ) (x rows base : List ℤ) → length x ≡ m → rows ≡ liftOf m f → base ≡ baseOf m f → summed x rows base ≡ table m (λ k. sum m (λ j. at x j *ℤ f k j))
+unfolding summed raised lowered
+summed-is m f x rows base l r b =
+    let z = lifted x in
+    let t = table (length z) (raised z rows) in
+    let long : length z ≡ m = lifted-length x ∙ l in
+    let input : (j : ℕ) → j < m → at z j ≡ at x j +ℤ pos (2 ^ 29) = λ j p. lifted-at x j (rw l p) in
+    let each : (k : ℕ) → k < m → at t k -ℤ pos (2 ^ 26) *ℤ sum m (at z) -ℤ pos (2 ^ 29) *ℤ at base k ≡ sum m (λ j. at x j *ℤ f k j) =
     λ k p.
-    let first : at t k ≡ sum m (λ j. (at x j +ℤ pos (2 ^ 29)) *ℤ (F N k j +ℤ pos (2 ^ 26))) =
-    ap (λ (w : List ℤ). at w k) u
-    ∙ getD-table (raised z rows) (pos 0) (length z) k (rw long p)
+    let first : at t k ≡ sum m (λ j. (at x j +ℤ pos (2 ^ 29)) *ℤ (f k j +ℤ pos (2 ^ 26))) =
+    getD-table (raised z rows) (pos 0) (length z) k (rw long p)
     ∙ ap (λ (n : ℕ). sum n (λ j. at z j *ℤ at rows (j * n + k))) long
-    ∙ sum-ext m (λ j. at z j *ℤ at rows (j * m + k)) (λ j. (at x j +ℤ pos (2 ^ 29)) *ℤ (F N k j +ℤ pos (2 ^ 26)))
-    (λ j q. rw (input j q, r, lift-at N j k q p))
+    ∙ sum-ext m (λ j. at z j *ℤ at rows (j * m + k)) (λ j. (at x j +ℤ pos (2 ^ 29)) *ℤ (f k j +ℤ pos (2 ^ 26)))
+    (λ j q. rw (input j q, r, lift-of-at m f j k q p))
     in
     let second : sum m (at z) ≡ sum m (λ j. at x j +ℤ pos (2 ^ 29)) = sum-ext m (at z) (λ j. at x j +ℤ pos (2 ^ 29)) input in
-    let third : at base k ≡ sum m (λ j. F N k j) = ap (λ (w : List ℤ). at w k) b ∙ base-at N k p in
-    rw (first, second, third) (sum-lifted m (pos (2 ^ 29)) (pos (2 ^ 26)) (at x) (λ j. F N k j))
+    let third : at base k ≡ sum m (λ j. f k j) = ap (λ (w : List ℤ). at w k) b ∙ base-of-at m f k p in
+    rw (first, second, third) (sum-lifted m (pos (2 ^ 29)) (pos (2 ^ 26)) (at x) (λ j. f k j))
     in
-    h
-    ∙ ap (λ (n : ℕ). table n (λ k. at t k -ℤ pos (2 ^ 26) *ℤ sum n (at z) -ℤ pos (2 ^ 29) *ℤ at base k)) long
-    ∙ table-ext m (λ k. at t k -ℤ pos (2 ^ 26) *ℤ sum m (at z) -ℤ pos (2 ^ 29) *ℤ at base k) (λ k. sum m (λ j. at x j *ℤ F N k j)) each
+    ap (λ (n : ℕ). table n (λ k. at t k -ℤ pos (2 ^ 26) *ℤ sum n (at z) -ℤ pos (2 ^ 29) *ℤ at base k)) long
+    ∙ table-ext m (λ k. at t k -ℤ pos (2 ^ 26) *ℤ sum m (at z) -ℤ pos (2 ^ 29) *ℤ at base k) (λ k. sum m (λ j. at x j *ℤ f k j)) each
+
+-- so with the folded kernel
+pub folds-summed : (N : ℕ) (x rows base : List ℤ) → length x ≡ N / 2 → rows ≡ liftList N → base ≡ baseList N → summed x rows base ≡ table (N / 2) (folds N x)
+unfolding folds liftList baseList
+folds-summed N = summed-is (N / 2) (F N)
 
 -- the sums of inputs that are not lifted
 abbrev pub plain : List ℤ → List ℤ → ℕ → ℤ
 plain x rows k = sum (length x) (λ j. at x j *ℤ (at rows (j * length x + k) -ℤ pos (2 ^ 26)))
 
-pub plain-is : (N : ℕ) (x rows : List ℤ) (k : ℕ) → length x ≡ N / 2 → rows ≡ liftList N → k < N / 2 → plain x rows k ≡ folds N x k
-unfolding folds
-plain-is N x rows k l r p =
-    let m = N / 2 in
-    ap (λ (n : ℕ). sum n (λ j. at x j *ℤ (at rows (j * n + k) -ℤ pos (2 ^ 26)))) l
-    ∙ sum-ext m (λ j. at x j *ℤ (at rows (j * m + k) -ℤ pos (2 ^ 26))) (λ j. at x j *ℤ F N k j)
-    (λ j q. ap (λ (z : ℤ). at x j *ℤ z) (rw (r, lift-at N j k q p) (simp ints (omega zarith))))
+pub plain-is : (m : ℕ) (f : ℕ → ℕ → ℤ) (x rows : List ℤ) → length x ≡ m → rows ≡ liftOf m f → table (length x) (plain x rows) ≡ table m (λ k. sum m (λ j. at x j *ℤ f k j))
+plain-is m f x rows l r = ap (λ (n : ℕ). table n (plain x rows)) l ∙ table-ext m (plain x rows) (λ k. sum m (λ j. at x j *ℤ f k j)) each
+  where
+    each : (k : ℕ) → k < m → plain x rows k ≡ sum m (λ j. at x j *ℤ f k j)
+    each k p =
+        ap (λ (n : ℕ). sum n (λ j. at x j *ℤ (at rows (j * n + k) -ℤ pos (2 ^ 26)))) l
+        ∙ sum-ext m (λ j. at x j *ℤ (at rows (j * m + k) -ℤ pos (2 ^ 26))) (λ j. at x j *ℤ f k j)
+        (λ j q. ap (λ (z : ℤ). at x j *ℤ z) (rw (r, lift-of-at m f j k q p) (simp ints (omega zarith))))
+
+pub folds-plain : (N : ℕ) (x rows : List ℤ) → length x ≡ N / 2 → rows ≡ liftList N → table (length x) (plain x rows) ≡ table (N / 2) (folds N x)
+unfolding folds liftList
+folds-plain N = plain-is (N / 2) (F N)

@@ -1,15 +1,18 @@
 -- What the leaves of a block hand on to each other: a record for each stage.
-use mathlib.Core.Path.{_≡_, ap, _∙_}
+use mathlib.Core.Path.{_≡_, sym, ap, _∙_}
 use mathlib.Core.List.{List}
-use Prim.Native.Nat.{ℕ, _/_, _^_, _≤_, _<_}
+use Prim.Native.Nat.{ℕ, _*_, _/_, _^_, _≤_, _<_}
 use native.Mathlib.Omega.{arith}
+use lib.Dec.{T, leb, leb→le}
 use lib.ListN.{length}
-use lib.IntN.{ℤ, pos}
+use lib.IntN.{ℤ, pos, natAbs}
 use Rattle.arithmetic.specs.Lists.{at, table, Small}
 use Rattle.arithmetic.specs.ListLaws.{length-table, getD-table}
-use Rattle.cosine.specs.LengthLaws.{Length}
+use Rattle.cosine.specs.Kernels.{d, F}
+use Rattle.cosine.specs.KernelLaws.{F-size}
+use Rattle.cosine.specs.LengthLaws.{Length, Part, d-third, third-part}
 use Rattle.tables.specs.HalfLaws.{riseList, fallList}
-use Rattle.tables.specs.LiftLists.{liftList, baseList}
+use Rattle.tables.specs.LiftLists.{Lifted, liftOf, baseOf, lift-of-length, lift-of-is, base-of-length, liftList, baseList}
 use Rattle.transform.specs.Analysis.{y}
 use Rattle.transform.specs.FoldLaws.{folded}
 use Rattle.transform.specs.InverseLaws.{folds}
@@ -23,14 +26,59 @@ pub record Folded (N : ℕ) (x z : List ℤ) : Type 0 where
 
 -- x can be summed with the folded kernel
 pub record Input (N : ℕ) (x : List ℤ) : Type 0 where
-  pub most : N / 2 ≤ 36
+  pub most : N / 2 ≤ 108
   pub long : length x ≡ N / 2
   pub small : Small x (2 ^ 29)
 
--- the kernel, lifted, and the sums of its numbers
+-- a length that has sixths, whose third has a kernel of its own
+pub record Sixths (N : ℕ) : Type 0 where
+  pub whole : 6 * (N / 6) ≡ N
+  pub parts : d (N / 3) ≡ 3 * d N
+  pub part : Part (N / 3)
+  pub few : N / 6 ≤ 36
+
+pub sixths-of : (N : ℕ) → Length N → Sixths N
+sixths-of N l = record { whole = omega (arith, l .twelve); parts = d-third N l; part = third-part N l; few = omega (arith, l .most) }
+
+-- x can be summed so in thirds
+pub record Ready (N : ℕ) (x : List ℤ) : Type 0 where
+  pub six : Sixths N
+  pub input : Input N x
+
+-- a kernel of m × m, lifted, and the sums of its numbers
+pub record Weights (m : ℕ) (rows base : List ℤ) : Type 0 where
+  pub few : m ≤ 36
+  pub kernel : ℕ → ℕ → ℤ
+  pub small : (k j : ℕ) → natAbs (kernel k j) ≤ 2 ^ 26
+  pub rows-are : rows ≡ liftOf m kernel
+  pub base-are : base ≡ baseOf m kernel
+
+module _ {m : ℕ} {rows base : List ℤ} (w : Weights m rows base) where
+  pub rows-long : length rows ≡ m * m
+  rows-long = ap length (w .rows-are) ∙ lift-of-length m (w .kernel)
+
+  pub rows-lifted : Lifted rows (2 ^ 27)
+  rows-lifted = rw (w .rows-are) (lift-of-is m (w .kernel) (w .small))
+
+  pub base-long : length base ≡ m
+  base-long = ap length (w .base-are) ∙ base-of-length m (w .kernel)
+
+-- the folded kernel of N, so. The test on N is one that computes: a body's search sees it
 pub record Kernel (N : ℕ) (rows base : List ℤ) : Type 0 where
+  pub few : T (leb (N / 2) 36)
   pub rows-are : rows ≡ liftList N
   pub base-are : base ≡ baseList N
+
+pub kernel-weights : (N m : ℕ) (rows base : List ℤ) → m ≡ N / 2 → Kernel N rows base → Weights m rows base
+unfolding liftList baseList
+kernel-weights N m rows base e k =
+    record {
+      few = omega (arith, e, leb→le (N / 2) 36 (k .few));
+      kernel = F N;
+      small = F-size N;
+      rows-are = k .rows-are ∙ ap (λ (n : ℕ). liftOf n (F N)) (sym e);
+      base-are = k .base-are ∙ ap (λ (n : ℕ). baseOf n (F N)) (sym e);
+    }
 
 -- room for m numbers, twice
 pub record Room (m : ℕ) (z t : List ℤ) : Type 0 where
@@ -54,10 +102,14 @@ sums-of N x t i e =
           };
     }
 
-pub folded-input : (N : ℕ) (x z : List ℤ) → Folded N x z → Input N z
-folded-input N x z f =
+pub folded-ready : (N : ℕ) (x z : List ℤ) → Folded N x z → Ready N z
+folded-ready N x z f =
     record {
-      most = omega (arith, f .whole .most);
-      long = ap length (f .is) ∙ length-table (folded N (y N (at (riseList N)) (at (fallList N)) x)) (N / 2);
-      small = record { small = λ i p. omega (arith, f .small .small i p) };
+      six = sixths-of N (f .whole);
+      input =
+          record {
+            most = omega (arith, f .whole .most);
+            long = ap length (f .is) ∙ length-table (folded N (y N (at (riseList N)) (at (fallList N)) x)) (N / 2);
+            small = record { small = λ i p. omega (arith, f .small .small i p) };
+          };
     }

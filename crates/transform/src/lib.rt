@@ -1,7 +1,8 @@
 // One block of a tabled length, valid by its requires: window, fold, direct analysis, inverse. Definitions are in specs/.
-// No function here is a public call: the bodies for each length in `analysis` and `synthesis` call them, and `split` the sums.
+// No function here is a public call: the bodies for each length in `analysis`, `synthesis` and `block_sums` call them, and `split` the sums.
 pub mod fold;
 pub mod sums;
+pub mod thirds;
 mod unfold;
 
 ghost use mathlib.Core.Path.{_≡_};
@@ -11,7 +12,7 @@ ghost use Rattle.arithmetic.specs.Lists.{table};
 ghost use Rattle.cosine.specs.Kernels.{rising, falling};
 ghost use Rattle.transform.specs.Analysis.{y, direct};
 ghost use Rattle.transform.specs.Synthesis.{V′};
-ghost use Rattle.transform.specs.Stages.{Folded, Input, Sums};
+ghost use Rattle.transform.specs.Stages.{Folded, Ready, Sums};
 ghost use Rattle.tables.specs.HalfLaws.{Lent};
 
 // The block, windowed and folded, into z. The length's window is lent.
@@ -21,7 +22,7 @@ pub fn folded_block(n: usize, left: &[i32], right: &[i32], x: &[i16], z: &mut [i
     requires { ⌜ length (now x) ≡ n ⌝ }
     requires { ⌜ length (now z) ≡ n / 2 ⌝ }
     ensures { λ _. ⌜ Folded n (now (x .entry)) (now (z .exit)) ⌝ }
-    ensures { λ _. ⌜ Input n (now (z .exit)) ⌝ }
+    ensures { λ _. ⌜ Ready n (now (z .exit)) ⌝ }
 {
     fold::fold(left, right, x, z);
 }

@@ -10,13 +10,16 @@ ghost use Rattle.arithmetic.specs.Rounding.{rnd};
 ghost use Rattle.arithmetic.specs.Sums.{sum};
 ghost use Rattle.arithmetic.specs.Lists.{at, table, Small};
 ghost use Rattle.tables.specs.LiftLists.{Lifted, liftList};
-ghost use Rattle.transform.specs.LiftLaws.{lifted, raised, lowered, plain};
-ghost use Rattle.transform.specs.Stages.{Input, Kernel, Room, Sums};
+ghost use Rattle.transform.specs.LiftLaws.{lifted, raised, lowered, summed, plain};
+ghost use Rattle.transform.specs.Stages.{Weights, Input, Ready, Kernel, Room, Sums};
 
 // The lift of an input, 2^29, and of a number of the kernel, 2^26.
 const INPUT: i32 = 536870912;
 
 const KERNEL: i64 = 67108864;
+
+// From this block length on lifts pay; shorter sums are made of products of 64 bits.
+const LONG: usize = 72;
 
 // A sum's inputs, lifted.
 pub fn lift(x: &[i32], z: &mut [i32])
@@ -104,12 +107,12 @@ pub fn lower(z: &[i32], base: &[i32], t: &mut [i64])
     }
 }
 
-// The sum over j of x(j) × F(k,j), for every k. The length's kernel is lent, and room for the lifted inputs.
-pub fn sums(n: usize, x: &[i32], rows: &[i32], base: &[i32], z: &mut [i32], t: &mut [i64])
-    requires { ⌜ Input n (now x) ⌝ }
-    requires { ⌜ Kernel n (now rows) (now base) ⌝ }
-    requires { ⌜ Room (n / 2) (now z) (now t) ⌝ }
-    ensures { λ _. ⌜ Sums n (now (x .entry)) (now (t .exit)) ⌝ }
+// The sums of x with a kernel of m × m that is lent, and room for the lifted inputs.
+fn kernel_sums(x: &[i32], rows: &[i32], base: &[i32], z: &mut [i32], t: &mut [i64])
+    requires { ⌜ Weights (length (now x)) (now rows) (now base) ⌝ }
+    requires { ⌜ Small (now x) (2 ^ 29) ⌝ }
+    requires { ⌜ Room (length (now x)) (now z) (now t) ⌝ }
+    ensures { λ _. ⌜ now (t .exit) ≡ summed (now (x .entry)) (now (rows .entry)) (now (base .entry)) ⌝ }
 {
     lift(x, z);
     columns(z, rows, t);
@@ -128,7 +131,7 @@ fn plain(x: &[i32], rows: &[i32], k: usize) -> i64
     requires { ⌜ length (now rows) ≡ length (now x) * length (now x) ⌝ }
     requires { ⌜ k < length (now x) ⌝ }
     requires { ⌜ length (now x) ≤ 36 ⌝ }
-    requires { ⌜ Small (now x) (2 ^ 29) ⌝ }
+    requires { ⌜ Small (now x) (3 * 2 ^ 29) ⌝ }
     requires { ⌜ Lifted (now rows) (2 ^ 27) ⌝ }
     ensures { λ r. ⌜ r ≡ plain (now (x .entry)) (now (rows .entry)) k ⌝ }
 {
@@ -140,16 +143,53 @@ fn plain(x: &[i32], rows: &[i32], k: usize) -> i64
     acc
 }
 
-// The same sums as `sums`, for the shortest length: six terms are too few for the lifts to pay.
-pub fn plain_sums(n: usize, x: &[i32], rows: &[i32], t: &mut [i64])
-    requires { ⌜ Input n (now x) ⌝ }
-    requires { ⌜ now rows ≡ liftList n ⌝ }
-    requires { ⌜ length (now t) ≡ n / 2 ⌝ }
-    ensures { λ _. ⌜ Sums n (now (x .entry)) (now (t .exit)) ⌝ }
+// The sums of x, no input of which is lifted, with a kernel of m × m that is lent.
+pub fn plain_columns(x: &[i32], rows: &[i32], t: &mut [i64])
+    requires { ⌜ length (now rows) ≡ length (now x) * length (now x) ⌝ }
+    requires { ⌜ length (now t) ≡ length (now x) ⌝ }
+    requires { ⌜ length (now x) ≤ 36 ⌝ }
+    requires { ⌜ Small (now x) (3 * 2 ^ 29) ⌝ }
+    requires { ⌜ Lifted (now rows) (2 ^ 27) ⌝ }
+    ensures { λ _. ⌜ now (t .exit) ≡ table (length (now (x .entry))) (plain (now (x .entry)) (now (rows .entry))) ⌝ }
 {
     for k in 0..t.len() {
         t[k] = plain(x, rows, k);
     }
+}
+
+// The sums of x with a kernel that is lent, in a block of `size`: by lifts where they pay. Room is lent for the lifted inputs.
+pub fn lent_sums(size: usize, x: &[i32], rows: &[i32], base: &[i32], z: &mut [i32], t: &mut [i64])
+    requires { ⌜ Weights (length (now x)) (now rows) (now base) ⌝ }
+    requires { ⌜ Small (now x) (2 ^ 29) ⌝ }
+    requires { ⌜ Room (length (now x)) (now z) (now t) ⌝ }
+    ensures { λ _. ⌜ now (t .exit) ≡ summed (now (x .entry)) (now (rows .entry)) (now (base .entry)) ⌝ }
+{
+    if size < LONG {
+        plain_columns(x, rows, t);
+        return;
+    }
+    kernel_sums(x, rows, base, z, t);
+}
+
+// The sum over j of x(j) × F(k,j), for every k. The length's kernel is lent, and room for the lifted inputs.
+pub fn sums(n: usize, x: &[i32], rows: &[i32], base: &[i32], z: &mut [i32], t: &mut [i64])
+    requires { ⌜ Ready n (now x) ⌝ }
+    requires { ⌜ Kernel n (now rows) (now base) ⌝ }
+    requires { ⌜ Room (n / 2) (now z) (now t) ⌝ }
+    ensures { λ _. ⌜ Sums n (now (x .entry)) (now (t .exit)) ⌝ }
+{
+    kernel_sums(x, rows, base, z, t);
+}
+
+// The same sums, for the shortest length: six terms are too few for the lifts to pay.
+pub fn plain_sums(n: usize, x: &[i32], rows: &[i32], t: &mut [i64])
+    requires { ⌜ Input n (now x) ⌝ }
+    requires { ⌜ n / 2 ≤ 36 ⌝ }
+    requires { ⌜ now rows ≡ liftList n ⌝ }
+    requires { ⌜ length (now t) ≡ n / 2 ⌝ }
+    ensures { λ _. ⌜ Sums n (now (x .entry)) (now (t .exit)) ⌝ }
+{
+    plain_columns(x, rows, t);
 }
 
 fn coefficient(sum: i64) -> i32

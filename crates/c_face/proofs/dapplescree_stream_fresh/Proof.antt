@@ -43,7 +43,7 @@ taken c = sym (ap (λ (m : Made). m .code) (c .before .before .fresh .ensures)) 
 long-is : (c : tie.Else1) → tabled (c .before .before .before .args .n) ≡ true
 long-is c = bank-takes (c .before .before .before .args .n) (taken c) .0
 
-most : (c : tie.Else1) → c .before .before .before .args .n ≤ 72
+most : (c : tie.Else1) → c .before .before .before .args .n ≤ 216
 most c = length-of (c .before .before .before .args .n) (is-T (long-is c)) .most
 
 returns-2 : tie.Need-returns-2

@@ -9,14 +9,15 @@ use mir.Syntax.{w64}
 use mir.Facts.{toZ-ofZ}
 use Rattle.arithmetic.specs.Lists.{at}
 use Rattle.arithmetic.specs.ListLaws.{table-at, Filled, filled-none, filled-more, filled-all}
+use Rattle.stream.specs.Synthesis.{storage}
 use Rattle.c_face.proofs.write_tail.Statement.{statement}
 use Rattle.c_face.proofs.write_tail.Tie as tie
 
 abbrev Inv-loop : tie.InvT-loop
-Inv-loop part₀ tail i₀ part i = (i ≤ 36) × Filled (at tail) i part part₀
+Inv-loop part₀ tail i₀ part i = (i ≤ storage) × Filled (at tail) i part part₀
 
 abbrev μ-loop : tie.MeasureT-loop
-μ-loop part₀ tail i₀ part i = 36 - i
+μ-loop part₀ tail i₀ part i = storage - i
 
 loop-holds : tie.Need-loop-holds Inv-loop μ-loop
 loop-holds c = (omega arith, filled-none (at (c .args .t1)) _)
@@ -55,8 +56,8 @@ returns : tie.Need-returns Inv-loop μ-loop
 returns c =
     let s = c .before .before in
     let t = s .args .t1 in
-    let e : c .before .loop .i ≡ 36 = omega arith in
-    filled-all (at t) 36 (c .before .loop .part) _ (rw e at (c .before .loop .inv .1)) (s .pre) ∙ table-at t 36 (good-length (eSInt w64) 36 t _ (s .good .0))
+    let e : c .before .loop .i ≡ storage = omega arith in
+    filled-all (at t) storage (c .before .loop .part) _ (rw e at (c .before .loop .inv .1)) (s .pre) ∙ table-at t storage (good-length (eSInt w64) storage t _ (s .good .0))
 
 pub write-tail-spec : {M : Type 1} → statement M
 write-tail-spec =

@@ -7,10 +7,10 @@ use Rattle.check_blocks.proofs.alternating.Statement.{statement}
 use Rattle.check_blocks.proofs.alternating.Tie as tie
 
 abbrev Inv-loop : tie.InvT-loop
-Inv-loop first second x₀ i₀ x i = (i ≤ 80) × (length x ≡ 80)
+Inv-loop first second x₀ i₀ x i = (i ≤ 220) × (length x ≡ 220)
 
 abbrev μ-loop : tie.MeasureT-loop
-μ-loop first second x₀ i₀ x i = 80 - i
+μ-loop first second x₀ i₀ x i = 220 - i
 
 loop-holds : tie.Need-loop-holds Inv-loop μ-loop
 loop-holds c = search needs

@@ -7,7 +7,7 @@ use Rattle.check_blocks.proofs.driven.Statement.{statement}
 use Rattle.check_blocks.proofs.driven.Tie as tie
 
 abbrev Inv-loop : tie.InvT-loop
-Inv-loop n k low high x₀ i₀ x i = (i ≤ n) × (length x ≡ 80)
+Inv-loop n k low high x₀ i₀ x i = (i ≤ n) × (length x ≡ 220)
 
 abbrev μ-loop : tie.MeasureT-loop
 μ-loop n k low high x₀ i₀ x i = n - i

@@ -1,4 +1,4 @@
--- `main` is safe and ends: the four lengths are tabled.
+-- `main` is safe and ends: the six lengths are tabled.
 use borrow.Author.Needs.{needs}
 use lib.Dec.{lit≤}
 use Rattle.arithmetic.specs.Lists.{every}
@@ -22,6 +22,14 @@ offered-requires-4 : tie.Need-offered-requires-4
 unfolding tabled every lengths
 offered-requires-4 c κs = (tt, lit≤ tt, lit≤ tt, lit≤ tt, lit≤ tt)
 
+offered-requires-5 : tie.Need-offered-requires-5
+unfolding tabled every lengths
+offered-requires-5 c κs = (tt, lit≤ tt, lit≤ tt, lit≤ tt, lit≤ tt)
+
+offered-requires-6 : tie.Need-offered-requires-6
+unfolding tabled every lengths
+offered-requires-6 c κs = (tt, lit≤ tt, lit≤ tt, lit≤ tt, lit≤ tt)
+
 untabled-requires : tie.Need-untabled-requires
 untabled-requires c κs = search needs
 
@@ -37,6 +45,18 @@ untabled-requires-4 c κs = search needs
 untabled-requires-5 : tie.Need-untabled-requires-5
 untabled-requires-5 c κs = search needs
 
+untabled-requires-6 : tie.Need-untabled-requires-6
+untabled-requires-6 c κs = search needs
+
+untabled-requires-7 : tie.Need-untabled-requires-7
+untabled-requires-7 c κs = search needs
+
+untabled-requires-8 : tie.Need-untabled-requires-8
+untabled-requires-8 c κs = search needs
+
+untabled-requires-9 : tie.Need-untabled-requires-9
+untabled-requires-9 c κs = search needs
+
 returns : tie.Need-returns
 returns c = search needs
 
@@ -48,9 +68,15 @@ main-spec =
     offered-requires-2
     offered-requires-3
     offered-requires-4
+    offered-requires-5
+    offered-requires-6
     untabled-requires
     untabled-requires-2
     untabled-requires-3
     untabled-requires-4
     untabled-requires-5
+    untabled-requires-6
+    untabled-requires-7
+    untabled-requires-8
+    untabled-requires-9
     returns)

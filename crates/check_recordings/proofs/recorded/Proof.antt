@@ -1,25 +1,39 @@
--- `recorded` is safe: 4,096 hops of 36, and one hop more, lie in the room.
-use Prim.Native.Nat.{_*_, _/_, _≤_}
-use native.Mathlib.Nat.{mul-le-mul}
-use native.Mathlib.Omega.{arith}
+-- `recorded` is safe: the parts lie in their arrays.
+use mathlib.Core.Path.{sym}
+use lib.Seq.{length-take-le}
 use borrow.Author.Needs.{needs}
 use Rattle.check_recordings.proofs.recorded.Statement.{statement}
 use Rattle.check_recordings.proofs.recorded.Tie as tie
 
-lies : (c : tie.Start) → c .args .hops * (c .args .n / 2) ≤ 4096 * 36
-lies c = let hop : c .args .n / 2 ≤ 36 = omega (arith, c .pre .0) in mul-le-mul (c .pre .1) hop
+slice-aggregate-there-and-back : tie.Need-slice-aggregate-there-and-back
+slice-aggregate-there-and-back c = sym (length-take-le _ _ (search needs))
 
-mul-count : tie.Need-mul-count
-mul-count c = let h = lies c in search needs
+array-borrow-prefix-c : tie.Need-array-borrow-prefix-c
+array-borrow-prefix-c c = search needs
 
-add-buffered : tie.Need-add-buffered
-add-buffered c = let h = lies c in search needs
+slice-aggregate-there-and-back-2 : tie.Need-slice-aggregate-there-and-back-2
+slice-aggregate-there-and-back-2 c = sym (length-take-le _ _ (search needs))
 
-buffered-requires : tie.Need-buffered-requires
-buffered-requires c κs = let h = lies c in search needs
+array-borrow-prefix-out : tie.Need-array-borrow-prefix-out
+array-borrow-prefix-out c = search needs
+
+slice-aggregate-there-and-back-3 : tie.Need-slice-aggregate-there-and-back-3
+slice-aggregate-there-and-back-3 c = sym (length-take-le _ _ (search needs))
+
+there-and-back-requires : tie.Need-there-and-back-requires
+there-and-back-requires c κs = search needs
 
 returns : tie.Need-returns
 returns c = search needs
 
 pub recorded-spec : {M : Type 1} → statement M
-recorded-spec = tie.close (tie.spec mul-count add-buffered buffered-requires returns)
+recorded-spec =
+    tie.close
+    (tie.spec
+    slice-aggregate-there-and-back
+    array-borrow-prefix-c
+    slice-aggregate-there-and-back-2
+    array-borrow-prefix-out
+    slice-aggregate-there-and-back-3
+    there-and-back-requires
+    returns)

@@ -7,7 +7,7 @@ use Rattle.check_stream.proofs.beside.Statement.{statement}
 use Rattle.check_stream.proofs.beside.Tie as tie
 
 abbrev Inv-loop : tie.InvT-loop
-Inv-loop n m t₀ tail₀ b₀ t tail b = (b ≤ 16) × (36 ≡ length tail)
+Inv-loop n m t₀ tail₀ b₀ t tail b = (b ≤ 16) × (108 ≡ length tail)
 
 abbrev μ-loop : tie.MeasureT-loop
 μ-loop n m t₀ tail₀ b₀ t tail b = 16 - b

@@ -7,10 +7,10 @@ use Rattle.check_stream.proofs.loud.Statement.{statement}
 use Rattle.check_stream.proofs.loud.Tie as tie
 
 abbrev Inv-loop : tie.InvT-loop
-Inv-loop signs x₀ rest₀ k₀ x rest k = (k ≤ 40) × (length x ≡ 40)
+Inv-loop signs x₀ k₀ x k = (k ≤ 112) × (length x ≡ 112)
 
 abbrev μ-loop : tie.MeasureT-loop
-μ-loop signs x₀ rest₀ k₀ x rest k = 40 - k
+μ-loop signs x₀ k₀ x k = 112 - k
 
 loop-holds : tie.Need-loop-holds Inv-loop μ-loop
 loop-holds c = search needs

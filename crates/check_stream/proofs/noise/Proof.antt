@@ -7,10 +7,10 @@ use Rattle.check_stream.proofs.noise.Statement.{statement}
 use Rattle.check_stream.proofs.noise.Tie as tie
 
 abbrev Inv-loop : tie.InvT-loop
-Inv-loop seed span x₀ r₀ k₀ x r k = (k ≤ 40) × (length x ≡ 40) × (r < 2 ^ 32)
+Inv-loop seed span x₀ r₀ k₀ x r k = (k ≤ 112) × (length x ≡ 112) × (r < 2 ^ 32)
 
 abbrev μ-loop : tie.MeasureT-loop
-μ-loop seed span x₀ r₀ k₀ x r k = 40 - k
+μ-loop seed span x₀ r₀ k₀ x r k = 112 - k
 
 loop-holds : tie.Need-loop-holds Inv-loop μ-loop
 loop-holds c = search needs

@@ -7,10 +7,10 @@ use Rattle.check_stream.proofs.rubbish.Statement.{statement}
 use Rattle.check_stream.proofs.rubbish.Tie as tie
 
 abbrev Inv-loop : tie.InvT-loop
-Inv-loop m v tail₀ i₀ tail i = (i ≤ 36) × (length tail ≡ 36)
+Inv-loop m v tail₀ i₀ tail i = (i ≤ 108) × (length tail ≡ 108)
 
 abbrev μ-loop : tie.MeasureT-loop
-μ-loop m v tail₀ i₀ tail i = 36 - i
+μ-loop m v tail₀ i₀ tail i = 108 - i
 
 loop-holds : tie.Need-loop-holds Inv-loop μ-loop
 loop-holds c = search needs

@@ -1,14 +1,14 @@
 -- `show_stream` is safe and ends: the loop counts to the length of the tail.
-use Prim.Native.Nat.{_-_, _≤_}
+use Prim.Native.Nat.{_-_, _^_, _≤_, _<_}
 use borrow.Author.Needs.{needs}
 use Rattle.check_stream.proofs.show_stream.Statement.{statement}
 use Rattle.check_stream.proofs.show_stream.Tie as tie
 
 abbrev Inv-loop : tie.InvT-loop
-Inv-loop n tail i₀ i-end i = i ≤ i-end
+Inv-loop n tail h₀ i₀ i-end h i = (i ≤ i-end) × (h < 2 ^ 32)
 
 abbrev μ-loop : tie.MeasureT-loop
-μ-loop n tail i₀ i-end i = i-end - i
+μ-loop n tail h₀ i₀ i-end h i = i-end - i
 
 slice-aggregate-word : tie.Need-slice-aggregate-word Inv-loop μ-loop
 slice-aggregate-word c = search needs
@@ -22,14 +22,14 @@ count-requires c κs = search needs
 loop-holds : tie.Need-loop-holds Inv-loop μ-loop
 loop-holds c = search needs
 
-mul-field : tie.Need-mul-field Inv-loop μ-loop
-mul-field c = search needs
+mul-show-entry : tie.Need-mul-show-entry Inv-loop μ-loop
+mul-show-entry c = search needs
 
-shared-slice-copy-out-field : tie.Need-shared-slice-copy-out-field Inv-loop μ-loop
-shared-slice-copy-out-field c = search needs
+shared-slice-copy-out-show-entry : tie.Need-shared-slice-copy-out-show-entry Inv-loop μ-loop
+shared-slice-copy-out-show-entry c = search needs
 
-field-requires : tie.Need-field-requires Inv-loop μ-loop
-field-requires c κs = search needs
+show-entry-requires : tie.Need-show-entry-requires Inv-loop μ-loop
+show-entry-requires c κs = search needs
 
 add-i : tie.Need-add-i Inv-loop μ-loop
 add-i c = search needs
@@ -42,6 +42,9 @@ loop-again c = search needs
 
 end-requires : tie.Need-end-requires Inv-loop μ-loop
 end-requires c κs = search needs
+
+count-requires-2 : tie.Need-count-requires-2 Inv-loop μ-loop
+count-requires-2 c κs = search needs
 
 returns : tie.Need-returns Inv-loop μ-loop
 returns c = search needs
@@ -56,11 +59,12 @@ show-stream-spec =
     word-requires
     count-requires
     loop-holds
-    mul-field
-    shared-slice-copy-out-field
-    field-requires
+    mul-show-entry
+    shared-slice-copy-out-show-entry
+    show-entry-requires
     add-i
     loop-less
     loop-again
+    count-requires-2
     end-requires
     returns)

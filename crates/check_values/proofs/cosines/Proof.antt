@@ -1,14 +1,14 @@
--- `cosines` is safe and ends: the loop counts to 600.
+-- `cosines` is safe and ends: the loop counts to 1800.
 use Prim.Native.Nat.{_-_, _≤_}
 use borrow.Author.Needs.{needs}
 use Rattle.check_values.proofs.cosines.Statement.{statement}
 use Rattle.check_values.proofs.cosines.Tie as tie
 
 abbrev Inv-loop : tie.InvT-loop
-Inv-loop t₀ t2 t = t ≤ 600
+Inv-loop t₀ t2 t = t ≤ 1800
 
 abbrev μ-loop : tie.MeasureT-loop
-μ-loop t₀ t2 t = 600 - t
+μ-loop t₀ t2 t = 1800 - t
 
 loop-holds : tie.Need-loop-holds Inv-loop μ-loop
 loop-holds c = search needs

@@ -1,4 +1,4 @@
--- `main` is safe and ends: the four lengths are tabled.
+-- `main` is safe and ends: the six lengths are tabled.
 use borrow.Author.Needs.{needs}
 use Rattle.arithmetic.specs.Lists.{every}
 use Rattle.arithmetic.specs.QuotientLaws.{quarters, splits}
@@ -27,6 +27,22 @@ clamps-requires c κs = search needs
 cosines-requires : tie.Need-cosines-requires
 cosines-requires c κs = search needs
 
+short-length-requires : tie.Need-short-length-requires
+unfolding tabled every lengths splits quarters
+short-length-requires c κs = (tt, tt)
+
+short-length-requires-2 : tie.Need-short-length-requires-2
+unfolding tabled every lengths splits quarters
+short-length-requires-2 c κs = (tt, tt)
+
+short-length-requires-3 : tie.Need-short-length-requires-3
+unfolding tabled every lengths splits quarters
+short-length-requires-3 c κs = (tt, tt)
+
+short-length-requires-4 : tie.Need-short-length-requires-4
+unfolding tabled every lengths splits quarters
+short-length-requires-4 c κs = (tt, tt)
+
 length-requires : tie.Need-length-requires
 unfolding tabled every lengths splits quarters
 length-requires c κs = (tt, tt)
@@ -34,14 +50,6 @@ length-requires c κs = (tt, tt)
 length-requires-2 : tie.Need-length-requires-2
 unfolding tabled every lengths splits quarters
 length-requires-2 c κs = (tt, tt)
-
-length-requires-3 : tie.Need-length-requires-3
-unfolding tabled every lengths splits quarters
-length-requires-3 c κs = (tt, tt)
-
-length-requires-4 : tie.Need-length-requires-4
-unfolding tabled every lengths splits quarters
-length-requires-4 c κs = (tt, tt)
 
 returns : tie.Need-returns
 returns c = search needs
@@ -57,8 +65,10 @@ main-spec =
     shifts-requires-4
     clamps-requires
     cosines-requires
+    short-length-requires
+    short-length-requires-2
+    short-length-requires-3
+    short-length-requires-4
     length-requires
     length-requires-2
-    length-requires-3
-    length-requires-4
     returns)

@@ -1,7 +1,6 @@
 -- `is_offered` meets its contract: each route by its own lengths.
 use mathlib.Core.Path.{_≡_}
 use Rattle.analysis.specs.declared.Route.the-variants.{Direct, Short}
-use Rattle.split.specs.ShortRoute as R
 use Rattle.analysis.specs.Analysis.{offered}
 use borrow.Author.Needs.{needs}
 use Rattle.checks.proofs.is_offered.Statement.{statement}
@@ -16,8 +15,8 @@ is-tabled-requires c κs = search needs
 enum-told-2 : tie.Need-enum-told-2
 enum-told-2 c = search needs
 
-is-tabled-requires-2 : tie.Need-is-tabled-requires-2
-is-tabled-requires-2 c κs = search needs
+is-offered-requires : tie.Need-is-offered-requires
+is-offered-requires c κs = search needs
 
 returns : tie.Need-returns
 unfolding offered
@@ -26,12 +25,12 @@ returns c =
     rw e (c .is-tabled .ensures)
 
 returns-2 : tie.Need-returns-2
-unfolding offered R.offered
+unfolding offered
 returns-2 c =
     let e : c .before .before .before .args .route ≡ Short = c .before .enum-told2 .given .1 in
-    rw e (c .is-tabled2 .ensures)
+    rw e (c .is-offered .ensures)
 
 pub is-offered-spec : {M : Type 1} → statement M
 is-offered-spec =
     tie.close
-    (tie.spec enum-told is-tabled-requires enum-told-2 is-tabled-requires-2 returns returns-2)
+    (tie.spec enum-told is-tabled-requires enum-told-2 is-offered-requires returns returns-2)

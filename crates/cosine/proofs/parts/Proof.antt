@@ -13,11 +13,19 @@ returns-3 : tie.Need-returns-3
 returns-3 c = rw (c .if3 .taken)
 
 returns-4 : tie.Need-returns-4
-returns-4 c =
+returns-4 c = rw (c .if4 .taken)
+
+returns-5 : tie.Need-returns-5
+returns-5 c = rw (c .if5 .taken)
+
+returns-6 : tie.Need-returns-6
+returns-6 c =
     let d = c .before in
     let e = d .before in
-    let s = e .before in
-    rw (last-length (s .args .n) (s .pre) (e .if1 .left) (d .if2 .left) (c .if3 .left))
+    let f = e .before in
+    let g = f .before in
+    let s = g .before in
+    rw (last-length (s .args .n) (s .pre) (g .if1 .left) (f .if2 .left) (e .if3 .left) (d .if4 .left) (c .if5 .left))
 
 pub parts-spec : {M : Type 1} → statement M
-parts-spec = tie.close (tie.spec returns returns-2 returns-3 returns-4)
+parts-spec = tie.close (tie.spec returns returns-2 returns-3 returns-4 returns-5 returns-6)

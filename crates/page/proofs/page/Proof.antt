@@ -58,8 +58,8 @@ module _ (c : tie.Else2) where
   most = counted-most (begin .args .hops) few
 
   -- the lines of the page
-  lines : (begin .args .hops + 1) * (begin .args .n / 2 / 6) ≤ 4096 * 6
-  lines = mul-le-mul (let h : begin .args .hops + 1 ≤ 4096 = omega (arith, most) in h) (let h : begin .args .n / 2 / 6 ≤ 6 = omega (arith, length-of (begin .args .n) tab .most) in h)
+  lines : (begin .args .hops + 1) * (begin .args .n / 2 / 6) ≤ 4096 * 18
+  lines = mul-le-mul (let h : begin .args .hops + 1 ≤ 4096 = omega (arith, most) in h) (let h : begin .args .n / 2 / 6 ≤ 18 = omega (arith, length-of (begin .args .n) tab .most) in h)
 
 add-blocks : tie.Need-add-blocks
 add-blocks c = omega (arith, most c)

@@ -1,7 +1,7 @@
 -- `edge_block` meets its contract: the hop is put into a room of zeros, and N entries of it are lent.
 use mathlib.Core.Path.{_≡_, sym, ap, _∙_}
 use mathlib.Core.List.{List, _++_}
-use Prim.Native.Nat.{ℕ, _+_, _-_, _/_, _≤_}
+use Prim.Native.Nat.{ℕ, _+_, _-_, _*_, _/_, _≤_}
 use native.Mathlib.Omega.{arith}
 use borrow.Author.Needs.{needs}
 use lib.ListN.{length, take, drop, replicate, length-replicate}
@@ -9,6 +9,7 @@ use lib.IntN.{ℤ, pos}
 use Rattle.cosine.specs.LengthLaws.{length-of}
 use Rattle.analysis.specs.Analysis.{coefficients}
 use Rattle.analysis.specs.AnalysisLaws.{offered-tabled}
+use Rattle.stream.specs.Synthesis.{storage}
 use Rattle.recording.specs.BlockLaws.{edge, edge-long, edge-room, edge-made}
 use Rattle.recording.proofs.edge_block.Statement.{statement}
 use Rattle.recording.proofs.edge_block.Tie as tie
@@ -26,22 +27,22 @@ module _ (s : tie.Start) where
   two : n / 2 + n / 2 ≡ n
   two = omega (arith, length-of n (offered-tabled (s .args .route) n (s .pre .0)) .twelve)
 
-  most : n ≤ 72
+  most : n ≤ 2 * storage
   most = length-of n (offered-tabled (s .args .route) n (s .pre .0)) .most
 
   -- the room with the hop in it
-  module _ (room ys : List ℤ) (is : room ≡ replicate 72 (pos 0)) (copied : ys ≡ hop) where
+  module _ (room ys : List ℤ) (is : room ≡ replicate (2 * storage) (pos 0)) (copied : ys ≡ hop) where
     abbrev filled : List ℤ
     filled = take p room ++ (ys ++ drop (p + n / 2 - p) (drop p room))
 
-    filled-long : length filled ≡ 72
-    filled-long = rw (is, copied) (edge-room n p 72 hop two most (s .pre .1) (s .pre .2) (p + n / 2 - p) (omega arith))
+    filled-long : length filled ≡ 2 * storage
+    filled-long = rw (is, copied) (edge-room n p (2 * storage) hop two most (s .pre .1) (s .pre .2) (p + n / 2 - p) (omega arith))
 
     lent : take n filled ≡ edge n p hop
-    lent = rw (is, copied) (edge-made n p 72 hop two most (s .pre .1) (s .pre .2) (p + n / 2 - p) (omega arith))
+    lent = rw (is, copied) (edge-made n p (2 * storage) hop two most (s .pre .1) (s .pre .2) (p + n / 2 - p) (omega arith))
 
     lent-long : length (take n filled) ≡ n
-    lent-long = ap length lent ∙ edge-long n p 72 hop two most (s .pre .1) (s .pre .2)
+    lent-long = ap length lent ∙ edge-long n p (2 * storage) hop two most (s .pre .1) (s .pre .2)
 
 silent-block-requires : tie.Need-silent-block-requires
 silent-block-requires c κs = search needs
@@ -59,7 +60,7 @@ part-block-start : tie.Need-part-block-start
 part-block-start c = search needs
 
 part-block-end : tie.Need-part-block-end
-part-block-end c = omega (arith, ap length (c .silent-block .ensures), length-replicate 72 (pos 0), two (c .before), most (c .before), c .before .pre .1)
+part-block-end c = omega (arith, ap length (c .silent-block .ensures), length-replicate (2 * storage) (pos 0), two (c .before), most (c .before), c .before .pre .1)
 
 copy-requires : tie.Need-copy-requires
 copy-requires c κs = search needs

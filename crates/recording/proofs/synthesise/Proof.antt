@@ -17,6 +17,7 @@ use Rattle.stream.specs.Synthesis as S
 use Rattle.stream.specs.StepLaws.{Bounded}
 use Rattle.stream.specs.Steps.{next, hop, streamAfter, returned}
 use Rattle.stream.specs.NextLaws.{Fine, returned-long}
+use Rattle.stream.specs.Synthesis.{storage}
 use Rattle.recording.specs.Recordings.{part, synthesis}
 use Rattle.arithmetic.specs.JoinLaws.{Joined, joined-none, joined-more, joined-all}
 use Rattle.recording.specs.RecordingLaws.{Lies, lies, part-first, part-next, part-length-is, part-range, stream-fine}
@@ -136,7 +137,7 @@ module _ (c : tie.In-loop Inv-loop μ-loop) where
   after : Fine (n begin) (streamAfter (n begin) (part (n begin) (x begin)) (suc turn))
   after = fine begin (suc turn) (omega (arith, c .loop-test .taken))
 
-  tail-long : length (c .before .loop .tail) ≡ 36
+  tail-long : length (c .before .loop .tail) ≡ storage
   tail-long = ap length (c .before .loop .inv .1) ∙ after .long
 
 mul-at : tie.Need-mul-at Inv-loop μ-loop

@@ -31,16 +31,16 @@ module _ (c : tie.Start) where
   block-small i p = c .pre .0 .given .small .small i (rw (c .pre .0 .given .all) p)
 
   a-long : length a ≡ n / 6
-  a-long = middle-length n (c .pre .0 .given .whole) (at block) block-small a plus minus (c .pre .1 .0)
+  a-long = middle-length n (c .pre .0 .given .few) (at block) block-small a plus minus (c .pre .1 .0)
 
 coefficients-requires : tie.Need-coefficients-requires
 coefficients-requires c κs =
     let s = c .before in
     let N = n s in
-    let t = s .pre .0 .given .whole in
+    let few = s .pre .0 .given .few in
     let u = at (block s) in
     let b = block-small s in
-    let r = s .pre .1 .0 in (plus-length N t u b (a s) (plus s) (minus s) r ∙ sym (a-long s), (minus-length N t u b (a s) (plus s) (minus s) r ∙ sym (a-long s), (s .pre .1 .1 ∙ omega (arith, a-long s, s .pre .0 .given .whole .twelve), (middle-small N t u b (a s) (plus s) (minus s) r, (plus-small N t u b (a s) (plus s) (minus s) r, minus-small N t u b (a s) (plus s) (minus s) r)))))
+    let r = s .pre .1 .0 in (plus-length N few u b (a s) (plus s) (minus s) r ∙ sym (a-long s), (minus-length N few u b (a s) (plus s) (minus s) r ∙ sym (a-long s), (s .pre .1 .1 ∙ omega (arith, a-long s, s .pre .0 .given .whole .twelve), (middle-small N few u b (a s) (plus s) (minus s) r, (plus-small N few u b (a s) (plus s) (minus s) r, minus-small N few u b (a s) (plus s) (minus s) r)))))
 
 same-length : tie.Need-same-length
 same-length c = search needs

@@ -3,7 +3,7 @@ use mathlib.Core.Path.{sym, ap, _∙_}
 use native.Mathlib.Omega.{arith}
 use lib.ListN.{length}
 use Rattle.tables.specs.HalfLaws.{rise-length, fall-length}
-use Rattle.split.specs.OfferLaws.{third-part}
+use Rattle.cosine.specs.LengthLaws.{third-part}
 use Rattle.split.specs.WindowLaws.{lent-weights}
 use Rattle.split.specs.ShortStepLaws.{windowed-step}
 use Rattle.split.specs.PartLaws.{windowed-length}
@@ -19,7 +19,7 @@ windowed-block-requires c κs =
     let l = rise-length n in
     let w = lent-weights n (s .args .left .now) (s .args .right .now) (q .0) in (
       ap length (q .0 .rise) ∙ l ∙ sym (fall-length n) ∙ sym (ap length (q .0 .fall)),
-      (q .1 .0 ∙ omega (arith, q .0 .whole .twelve, ap length (q .0 .rise), l), (q .1 .1 ∙ sym (q .1 .0), w)),
+      (q .1 .1 .0 ∙ omega (arith, q .0 .whole .twelve, ap length (q .0 .rise), l), (q .1 .1 .1 ∙ sym (q .1 .1 .0), w)),
     )
 
 same-length : tie.Need-same-length
@@ -31,9 +31,9 @@ returns c =
     let s = f .before .before in
     let q = s .pre in
     let n = s .args .n in
-    let is = windowed-step n (s .args .x .now) (length (s .args .x .now)) (s .args .left .now) (s .args .right .now) _ (q .1 .0) (q .0 .rise) (q .0 .fall) (f .windowed-block .ensures .0) in
+    let is = windowed-step n (s .args .x .now) (length (s .args .x .now)) (s .args .left .now) (s .args .right .now) _ (q .1 .1 .0) (q .0 .rise) (q .0 .fall) (f .windowed-block .ensures .0) in
     record {
-      given = record { whole = q .0 .whole; part = third-part n (q .0 .whole); all = windowed-length n (s .args .x .now) _ is; small = f .windowed-block .ensures .1 };
+      given = record { whole = q .0 .whole; few = q .1 .0; part = third-part n (q .0 .whole); all = windowed-length n (s .args .x .now) _ is; small = f .windowed-block .ensures .1 };
       is = is;
     }
 

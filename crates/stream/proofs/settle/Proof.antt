@@ -15,7 +15,7 @@ module _ (s : tie.Start) where
   n = s .args .n
 
   small : (k : ℕ) → k < n / 2 → natAbs (at (s .args .x .now) k) ≤ 2 ^ 29
-  small k p = s .pre .0 .input .small .small k (omega (arith, s .pre .0 .input .long))
+  small k p = s .pre .0 .ready .input .small .small k (omega (arith, s .pre .0 .ready .input .long))
 
   long : length (s .args .v .now) ≡ n
   long = values-long n (s .pre .0 .part) (s .args .x .now) (s .args .v .now) small (s .pre .1)

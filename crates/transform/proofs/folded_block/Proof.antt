@@ -3,7 +3,7 @@ use native.Mathlib.Omega.{arith}
 use lib.ListN.{length}
 use Rattle.tables.specs.HalfLaws.{lent-halves}
 use Rattle.transform.specs.DirectLaws.{folded-step}
-use Rattle.transform.specs.Stages.{Folded, folded-input}
+use Rattle.transform.specs.Stages.{Folded, folded-ready}
 use borrow.Author.Needs.{needs}
 use Rattle.transform.proofs.folded_block.Statement.{statement}
 use Rattle.transform.proofs.folded_block.Tie as tie
@@ -26,7 +26,7 @@ returns c =
     let q = s .pre in
     let is = folded-step (s .args .n) (q .0 .whole) (s .args .x .now) (length (s .args .z .now)) (s .args .left .now) (s .args .right .now) _ (q .1 .1) (q .0 .rise) (q .0 .fall) (f .fold .ensures .0) in
     let made : Folded (s .args .n) (s .args .x .now) (f .fold .last .1 .1 .1 .0) = record { whole = q .0 .whole; is = is; small = f .fold .ensures .1 } in
-    (made, folded-input (s .args .n) (s .args .x .now) _ made)
+    (made, folded-ready (s .args .n) (s .args .x .now) _ made)
 
 pub folded-block-spec : {M : Type 1} → statement M
 folded-block-spec = tie.close (tie.spec fold-requires same-length returns)

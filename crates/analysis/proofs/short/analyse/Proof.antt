@@ -2,8 +2,8 @@
 use mathlib.Core.Path.{_≡_, _∙_}
 use native.Mathlib.Omega.{arith}
 use borrow.Author.Needs.{needs}
-use Rattle.cosine.specs.LengthLaws.{last-length}
-use Rattle.split.specs.OfferLaws.{offered-tabled}
+use Rattle.cosine.specs.LengthLaws.{last-short}
+use Rattle.split.specs.OfferLaws.{offered-short}
 use Rattle.split.specs.ShortStepLaws.{short-at}
 use Rattle.analysis.proofs.short.analyse.Statement.{statement}
 use Rattle.analysis.proofs.short.analyse.Tie as tie
@@ -40,7 +40,7 @@ returns-3 c =
 
 -- what is left is the last length
 last : (c : tie.Else3) → c .before .before .before .args .n ≡ 72
-last c = last-length (c .before .before .before .args .n) (offered-tabled (c .before .before .before .args .n) (c .before .before .before .pre .0)) (c .before .before .if1 .left) (c .before .if2 .left) (c .if3 .left)
+last c = last-short (c .before .before .before .args .n) (offered-short (c .before .before .before .args .n) (c .before .before .before .pre .0)) (c .before .before .if1 .left) (c .before .if2 .left) (c .if3 .left)
 
 short-72-requires : tie.Need-short-72-requires
 short-72-requires c κs =

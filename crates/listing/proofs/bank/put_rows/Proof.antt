@@ -10,7 +10,7 @@ use lib.Seq.{length-take-le, take-at}
 use lib.IntN.{ℤ}
 use Rattle.cosine.specs.LengthLaws.{length-of}
 use Rattle.stream.specs.declared.Stream.{Stream}
-use Rattle.stream.specs.Synthesis.{fresh}
+use Rattle.stream.specs.Synthesis.{storage, fresh}
 use Rattle.stream.specs.Steps.{returned}
 use Rattle.stream.specs.NextLaws.{returned-long}
 use Rattle.text.specs.Buffers.{Put}
@@ -30,22 +30,22 @@ x N text = analysed N (recording (hopsOf text))
 
 record Turning (text : List ℕ) (N H : ℕ) (out₀ : List ℕ) (from : ℕ) (out : List ℕ) (block hop : List ℤ) (place : ℕ) (s : Stream) (at h : ℕ) : Type 0 where
   few : h ≤ H
-  long : length hop ≡ 36
+  long : length hop ≡ storage
   reached : Reached text N H (suc h) block place s
   put : Put (rows (returnedHops N text) h) out₀ from out at
 
 put-all : (f : ℕ → List ℤ) {i j a b : ℕ} {out after : List ℕ} → i ≡ j → Put (rows f i) out a after b → Put (rows f j) out a after b
 put-all f e p = rw e at p
 
-half : {text : List ℕ} {N H : ℕ} → Taken text N H → N / 2 ≤ 36
+half : {text : List ℕ} {N H : ℕ} → Taken text N H → N / 2 ≤ storage
 half {text} {N} K = omega (arith, length-of N (K .length-tabled) .most)
 
 -- a hop that a step returned, in front of the room for one
-module _ {text : List ℕ} {N H : ℕ} (K : Taken text N H) (b : ℕ) (ys room : List ℤ) (is : ys ≡ returned N (x N text) b) (room-long : length room ≡ 36) where
+module _ {text : List ℕ} {N H : ℕ} (K : Taken text N H) (b : ℕ) (ys room : List ℤ) (is : ys ≡ returned N (x N text) b) (room-long : length room ≡ storage) where
   ys-long : length ys ≡ N / 2
   ys-long = ap length is ∙ returned-long N (x N text) b
 
-  hop-long : length (ys ++ drop (N / 2) room) ≡ 36
+  hop-long : length (ys ++ drop (N / 2) room) ≡ storage
   hop-long = length-append ys (drop (N / 2) room) ∙ omega (arith, length-drop (N / 2) room, ys-long, half K)
 
   shown : take (N / 2) (ys ++ drop (N / 2) room) ≡ returned N (x N text) b

@@ -34,7 +34,7 @@ module _ (c : tie.In-loop Inv-loop μ-loop) where
   abbrev turn : ℕ
   turn = c .before .loop .j
 
-  few : turn < 6
+  few : turn < 18
   few = omega (arith, c .loop-test .taken, begin .pre .1)
 
   covered : turn * 6 + 6 ≤ length (begin .args .x .now)

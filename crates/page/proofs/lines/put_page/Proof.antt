@@ -41,7 +41,7 @@ module _ (s : tie.Start Inv-loop μ-loop) where
   fit : lines * 6 ≡ n / 2
   fit = omega (arith, length-of n (s .pre .0 .0) .twelve)
 
-  few : lines ≤ 6
+  few : lines ≤ 18
   few = omega (arith, fit, length-of n (s .pre .0 .0) .most)
 
   out-room : length (s .args .out .now) ≡ s .args .blocks * (lines * 81)
@@ -87,11 +87,11 @@ module _ (c : tie.In-loop Inv-loop μ-loop) where
   turn-most : turn ≤ 4096
   turn-most = omega (arith, less, begin .pre .0 .1)
 
-  at-few : turn * M ≤ 4096 * 36
-  at-few = mul-le-mul turn-most (let h : M ≤ 36 = omega (arith, fit begin, few begin) in h)
+  at-few : turn * M ≤ 4096 * 108
+  at-few = mul-le-mul turn-most (let h : M ≤ 108 = omega (arith, fit begin, few begin) in h)
 
-  place-few : turn * size ≤ 4096 * 486
-  place-few = mul-le-mul turn-most (let h : size ≤ 486 = omega (arith, few begin) in h)
+  place-few : turn * size ≤ 4096 * 1458
+  place-few = mul-le-mul turn-most (let h : size ≤ 1458 = omega (arith, few begin) in h)
 
 mul-at : tie.Need-mul-at Inv-loop μ-loop
 mul-at c = omega (arith, at-few c)

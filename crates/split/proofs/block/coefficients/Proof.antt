@@ -1,15 +1,14 @@
 -- `coefficients` meets its contract. The invariant: the first 3k coefficients are written.
 use mathlib.Core.Path.{_≡_, sym, ap, _∙_}
-use mathlib.Core.List.{List}
-use Prim.Native.Nat.{ℕ, _+_, _-_, _*_, _^_, _≤_, _<_}
+use Prim.Native.Nat.{_+_, _-_, _*_, _^_, _≤_, _<_}
 use native.Mathlib.Omega.{arith}
-use lib.ListN.{length, set, length-set}
+use lib.ListN.{length, length-set}
 use lib.IntN.{ℤ}
 use mir.Syntax.{w32, w64}
 use mir.Facts.{toZ-ofZ}
 use Rattle.arithmetic.specs.Rounding.{rnd}
 use Rattle.arithmetic.specs.Lists.{at}
-use Rattle.arithmetic.specs.ListLaws.{Filled, filled-none, filled-more, filled-all}
+use Rattle.arithmetic.specs.ListLaws.{Filled, filled-none, filled-three, filled-all}
 use Rattle.split.specs.ShortStepLaws.{interleaved, interleaved-first, interleaved-middle, interleaved-last}
 use Rattle.split.proofs.block.coefficients.Statement.{statement}
 use Rattle.split.proofs.block.coefficients.Tie as tie
@@ -19,18 +18,6 @@ Inv-loop a plus minus out₀ k₀ k-end out k = (k ≤ length a) × Filled (inte
 
 abbrev μ-loop : tie.MeasureT-loop
 μ-loop a plus minus out₀ k₀ k-end out k = length a - k
-
--- three more entries
-filled-three : (f : ℕ → ℤ) (k : ℕ) (out out₀ : List ℤ) (u v w : ℤ) → Filled f (3 * k) out out₀ → 3 * k + 2 < length out → u ≡ f (3 * k) → v ≡ f (3 * k + 1) → w ≡ f (3 * k + 2) →
-    Filled f (3 * (k + 1)) (set (set (set out (3 * k) u) (3 * k + 1) v) (3 * k + 2) w) out₀
-filled-three f k out out₀ u v w so less eu ev ew =
-    let next : 3 * k + 1 + 1 ≡ 3 * k + 2 = omega arith in
-    let last : 3 * k + 2 + 1 ≡ 3 * (k + 1) = omega arith in
-    let first = filled-more f (3 * k) out out₀ u so (omega arith) eu in
-    let second = filled-more f (3 * k + 1) (set out (3 * k) u) out₀ v first (omega (arith, length-set out (3 * k) u)) ev in
-    rw last at
-    (filled-more f (3 * k + 2) (set (set out (3 * k) u) (3 * k + 1) v) out₀ w (rw next at second)
-    (omega (arith, length-set out (3 * k) u, length-set (set out (3 * k) u) (3 * k + 1) v)) ew)
 
 loop-holds : tie.Need-loop-holds Inv-loop μ-loop
 loop-holds c = let a = c .args in (omega arith, filled-none (interleaved (a .a .now) (a .plus .now) (a .minus .now)) (a .out .now))

@@ -48,7 +48,7 @@ module _ (c : tie.After-fold) where
   are t h = halved-sums P (s .pre .0 .part) w (long s) t (h ∙ ap (λ (x : List ℤ). table (P / 2) (folds P x)) z-is)
 
 plain-sums-requires : tie.Need-plain-sums-requires
-plain-sums-requires c κs = let f = c .before .before .before in (input f, (s f .pre .1 .0, omega (arith, s f .pre .1 .1 .second)))
+plain-sums-requires c κs = let f = c .before .before .before in (input f, (s f .pre .0 .most, (s f .pre .1 .0, omega (arith, s f .pre .1 .1 .second))))
 
 same-length : tie.Need-same-length
 same-length c = search needs

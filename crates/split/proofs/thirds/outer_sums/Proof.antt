@@ -44,10 +44,10 @@ module _ (c : tie.Start) where
   g-long = ap length g-is ∙ length-table (G N u) (N / 6)
 
   b-small : Small b (2 ^ 57)
-  b-small = rw b-is (table-small (N / 6) (2 ^ 57) (B N u) (λ k p. omega (arith, B-size N u small k, c .pre .0 .given .whole .most)))
+  b-small = rw b-is (table-small (N / 6) (2 ^ 57) (B N u) (λ k p. omega (arith, B-size N u small k, c .pre .0 .given .few)))
 
   g-small : Small g (2 ^ 57)
-  g-small = rw g-is (table-small (N / 6) (2 ^ 57) (G N u) (λ k p. omega (arith, G-size N u small k, c .pre .0 .given .whole .most)))
+  g-small = rw g-is (table-small (N / 6) (2 ^ 57) (G N u) (λ k p. omega (arith, G-size N u small k, c .pre .0 .given .few)))
 
 join-requires : tie.Need-join-requires
 join-requires c κs =

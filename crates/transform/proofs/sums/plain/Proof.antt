@@ -1,4 +1,4 @@
--- `plain` meets its contract. The invariant: acc is the sum of the products passed. Each product is below 2^57, so 36 of them fit.
+-- `plain` meets its contract. The invariant: acc is the sum of the products passed. Each product is at most 3 × 2^55, so 36 of them fit.
 use mathlib.Core.Path.{_≡_, sym, _∙_}
 use mathlib.Core.List.{List}
 use Prim.Native.Nat.{ℕ, _+_, _-_, _*_, _^_, _≤_, _<_}
@@ -12,9 +12,9 @@ use mir.Val.{toZ, ofZ, SFits}
 use mir.Facts.{toZ-ofZ}
 use Rattle.arithmetic.specs.Sums.{sum}
 use Rattle.arithmetic.specs.Lists.{at}
-use Rattle.arithmetic.specs.OrderLaws.{abs-sub, abs-mul-le, sfits-abs}
+use Rattle.arithmetic.specs.OrderLaws.{abs-mul-le, sfits-abs}
 use Rattle.arithmetic.specs.SumLaws.{sum-abs, sum-zero, sum-next}
-use Rattle.tables.specs.LiftLists.{place}
+use Rattle.tables.specs.LiftLists.{size-down, place}
 use Rattle.transform.proofs.sums.plain.Statement.{statement}
 use Rattle.transform.proofs.sums.plain.Tie as tie
 
@@ -44,14 +44,17 @@ module _ (c : tie.Start Inv-loop μ-loop) where
   most : length x * length x ≤ 36 * 36
   most = mul-le-mul (c .pre .1 .1 .0) (c .pre .1 .1 .0)
 
-  less : (j : ℕ) → j < length x → natAbs (at rows (j * length x + k) -ℤ pos (2 ^ 26)) ≤ 2 ^ 27 + 2 ^ 26
-  less j p = omega (arith, abs-sub (at rows (j * length x + k)) (pos (2 ^ 26)), c .pre .1 .1 .1 .1 .size (j * length x + k) (in-rows j p))
+  less : (j : ℕ) → j < length x → natAbs (at rows (j * length x + k) -ℤ pos (2 ^ 26)) ≤ 2 ^ 26
+  less j p =
+      let r = c .pre .1 .1 .1 .1 in
+      let i = j * length x + k in
+      size-down (at rows i) (2 ^ 26) (r .sign i (in-rows j p)) (r .size i (in-rows j p))
 
   part-abs : (j : ℕ) → j ≤ length x → natAbs (sum j (term x rows k)) ≤ 36 * 2 ^ 57
   part-abs j p =
       omega (
         arith,
-        sum-abs j (term x rows k) (2 ^ 29 * (2 ^ 27 + 2 ^ 26))
+        sum-abs j (term x rows k) (3 * 2 ^ 29 * 2 ^ 26)
             (λ i q. abs-mul-le (at x i) (at rows (i * length x + k) -ℤ pos (2 ^ 26)) (c .pre .1 .1 .1 .0 .small i (omega arith)) (less i (omega arith))),
         c .pre .1 .1 .0,
       )

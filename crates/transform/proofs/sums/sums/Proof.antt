@@ -1,80 +1,19 @@
--- `sums` meets its contract: the inputs are lifted, summed with the lifted kernel, and the lifts are taken off.
-use mathlib.Core.Path.{_≡_, sym, ap, ap₂, _∙_}
-use mathlib.Core.List.{List}
-use Prim.Native.Nat.{ℕ, _*_, _/_, _^_, _≤_}
-use native.Mathlib.Omega.{arith}
-use lib.ListN.{length}
-use lib.IntN.{ℤ}
-use Rattle.arithmetic.specs.Lists.{table, Small}
-use Rattle.arithmetic.specs.ListLaws.{length-table}
-use Rattle.tables.specs.LiftLists.{Lifted, lift-length, lift-is, base-length}
-use Rattle.transform.specs.LiftLaws.{lifted, lifted-length, lifted-is, raised, raised-small, lowered-is}
-use Rattle.transform.specs.Stages.{sums-of}
+-- `sums` meets its contract: its kernel is the folded one.
+use mathlib.Core.Path.{_∙_}
 use borrow.Author.Needs.{needs}
+use Rattle.transform.specs.LiftLaws.{folds-summed}
+use Rattle.transform.specs.Stages.{kernel-weights, sums-of}
 use Rattle.transform.proofs.sums.sums.Statement.{statement}
 use Rattle.transform.proofs.sums.sums.Tie as tie
 
-lift-requires : tie.Need-lift-requires
-lift-requires c κs = search needs
-
--- the lifted inputs, as `lift` leaves them
-module _ (c : tie.After-lift) where
-  abbrev n : ℕ
-  n = c .before .before .args .n
-
-  abbrev x : List ℤ
-  x = c .before .before .args .x .now
-
-  abbrev rows : List ℤ
-  rows = c .before .before .args .rows .now
-
-  abbrev z : List ℤ
-  z = c .lift .last .1 .0
-
-  z-is : z ≡ lifted x
-  z-is = c .lift .ensures
-
-  z-length : length z ≡ n / 2
-  z-length = ap length z-is ∙ lifted-length x ∙ c .before .before .pre .0 .long
-
-  z-lifted : Lifted z (2 ^ 30)
-  z-lifted = rw z-is (lifted-is x (c .before .before .pre .0 .small))
-
-  rows-length : length rows ≡ length z * length z
-  rows-length = ap length (c .before .before .pre .1 .0 .rows-are) ∙ lift-length n ∙ sym (ap₂ (λ (a b : ℕ). a * b) z-length z-length)
-
-  rows-lifted : Lifted rows (2 ^ 27)
-  rows-lifted = rw (c .before .before .pre .1 .0 .rows-are) (lift-is n)
-
-  most : length z ≤ 36
-  most = omega (arith, z-length, c .before .before .pre .0 .most)
-
-columns-requires : tie.Need-columns-requires
-columns-requires c κs =
-    let f = c .before .before .before in
-    (rows-length f, (f .before .before .pre .1 .1 .second ∙ sym (z-length f), (most f, (z-lifted f, rows-lifted f))))
-
--- the sums, as `columns` leaves them
-module _ (c : tie.After-columns) where
-  abbrev f : tie.After-lift
-  f = c .before .before .before .before
-
-  abbrev t : List ℤ
-  t = c .columns .last .1 .1 .0
-
-  t-is : t ≡ table (length (z f)) (raised (z f) (rows f))
-  t-is = c .columns .ensures
-
-  t-length : length t ≡ length (z f)
-  t-length = ap length t-is ∙ length-table (raised (z f) (rows f)) (length (z f))
-
-  t-small : Small t (36 * 2 ^ 57)
-  t-small = rw t-is (raised-small (z f) (rows f) (rows-length f) (most f) (z-lifted f) (rows-lifted f))
-
-lower-requires : tie.Need-lower-requires
-lower-requires c κs =
-    let g = c .before .before .before in
-    let q = f g .before .before .pre in (ap length (q .1 .0 .base-are) ∙ base-length (n (f g)) ∙ sym (z-length (f g)), (t-length g, (most (f g), (record { small = λ i p. z-lifted (f g) .size i p }, t-small g))))
+kernel-sums-requires : tie.Need-kernel-sums-requires
+kernel-sums-requires c κs =
+    let s = c .before .before in
+    let a = s .args in
+    let q = s .pre in (
+      kernel-weights (a .n) _ (a .rows .now) (a .base .now) (q .0 .input .long) (q .1 .0),
+      (q .0 .input .small, rw (q .0 .input .long) (q .1 .1)),
+    )
 
 same-length : tie.Need-same-length
 same-length c = search needs
@@ -84,12 +23,12 @@ same-length-2 c = search needs
 
 returns : tie.Need-returns
 returns c =
-    let g = c .before .before .before .before .before in
-    let a = f g .before .before .args in
-    let q = f g .before .before .pre in
-    let s = c .before .lower .last .1 .1 .0 in
-    sums-of (n (f g)) (x (f g)) s (q .0)
-    (lowered-is (n (f g)) (x (f g)) (z (f g)) (rows (f g)) (a .base .now) (t g) s (q .0 .long) (z-is (f g)) (q .1 .0 .rows-are) (q .1 .0 .base-are) (t-is g) (c .before .lower .ensures))
+    let s = c .before .before .before .before .before in
+    let a = s .args in
+    let i = s .pre .0 .input in
+    let k = s .pre .1 .0 in
+    let g = c .before .before .kernel-sums in
+    sums-of (a .n) (a .x .now) (g .last .1 .1 .1 .1 .0) i (g .ensures ∙ folds-summed (a .n) (a .x .now) (a .rows .now) (a .base .now) (i .long) (k .rows-are) (k .base-are))
 
 pub sums-spec : {M : Type 1} → statement M
-sums-spec = tie.close (tie.spec lift-requires columns-requires lower-requires same-length same-length-2 returns)
+sums-spec = tie.close (tie.spec kernel-sums-requires same-length same-length-2 returns)

@@ -1,0 +1,178 @@
+/* Measures how many bytes of stack each call takes, its return address among them, and prints a Markdown table: each call runs on painted
+ * memory, and how far down the paint has changed is what it took. Bytes at the low end of a frame that are set aside and never written do
+ * not show. */
+#include "dapplescree.h"
+#include "lengths.h"
+#include <stdint.h>
+#include <stdlib.h>
+#include <string.h>
+#include <ucontext.h>
+
+enum { HOPS = 3, BLOCKS = HOPS + 1, ROOM = 1 << 20 };
+
+static int16_t samples[BLOCKS * MOST_M], sound[HOPS * MOST_M];
+static int32_t spectra[BLOCKS * MOST_M], coefficients[BLOCKS * MOST_M];
+static int64_t state[DAPPLESCREE_STATE];
+static uint8_t page[DAPPLESCREE_PAGE(MOST_N, HOPS)];
+
+static size_t n, m;
+
+/* a call of the same form that does nothing: it takes its return address */
+static __attribute__((noipa)) uint32_t nothing(size_t length, const int16_t *x, size_t x_length, int32_t *out, size_t out_length)
+{
+    (void)length, (void)x, (void)x_length, (void)out, (void)out_length;
+    return 0;
+}
+
+static uint32_t call_nothing(void)
+{
+    return nothing(n, samples, n, coefficients, m);
+}
+
+static uint32_t direct(void)
+{
+    return dapplescree_analyse_direct(n, samples, n, coefficients, m);
+}
+
+static uint32_t by_short_route(void)
+{
+    return dapplescree_analyse_short(n, samples, n, coefficients, m);
+}
+
+static uint32_t fresh(void)
+{
+    return dapplescree_stream_fresh(n, state, DAPPLESCREE_STATE);
+}
+
+static uint32_t step(void)
+{
+    return dapplescree_stream_step(state, DAPPLESCREE_STATE, spectra, m, sound, m);
+}
+
+static uint32_t recording_direct(void)
+{
+    return dapplescree_analyse_recording_direct(n, HOPS, samples, HOPS * m, coefficients, BLOCKS * m);
+}
+
+static uint32_t recording_short(void)
+{
+    return dapplescree_analyse_recording_short(n, HOPS, samples, HOPS * m, coefficients, BLOCKS * m);
+}
+
+static uint32_t synthesis(void)
+{
+    return dapplescree_synthesise_recording(n, HOPS, spectra, BLOCKS * m, sound, HOPS * m);
+}
+
+static uint32_t printed(void)
+{
+    return dapplescree_page(n, HOPS, spectra, BLOCKS * m, page, DAPPLESCREE_PAGE(n, HOPS));
+}
+
+static const struct call {
+    const char *name;
+    uint32_t (*run)(void);
+} calls[] = {
+    {"direct", direct},
+    {"short route", by_short_route},
+    {"fresh", fresh},
+    {"step", step},
+    {"recording, direct", recording_direct},
+    {"recording, short route", recording_short},
+    {"recording, synthesis", synthesis},
+    {"page", printed},
+};
+
+enum { CALLS = sizeof calls / sizeof calls[0] };
+
+static uint8_t stack[ROOM] __attribute__((aligned(64)));
+static ucontext_t here, there;
+static uint32_t (*running)(void);
+static uint32_t refused;
+
+static void run(void)
+{
+    refused |= running();
+}
+
+/* Runs a call on the stack. */
+static void run_there(uint32_t (*call)(void))
+{
+    running = call;
+    getcontext(&there);
+    there.uc_stack.ss_sp = stack;
+    there.uc_stack.ss_size = sizeof stack;
+    there.uc_link = &here;
+    makecontext(&there, run, 0);
+    swapcontext(&here, &there);
+}
+
+/* How many bytes of the stack, from its top down to the last that a call changed. */
+static size_t depth(uint32_t (*call)(void), uint8_t paint)
+{
+    size_t kept = 0;
+    memset(stack, paint, sizeof stack);
+    run_there(call);
+    while (kept < sizeof stack && stack[kept] == paint)
+        kept++;
+    if (kept == 0) {
+        fprintf(stderr, "bench: a call takes more than %d bytes of stack\n", ROOM);
+        exit(1);
+    }
+    return sizeof stack - kept;
+}
+
+/* What is written may be the paint itself, so two are tried. */
+static size_t deepest(uint32_t (*call)(void))
+{
+    size_t a = depth(call, 0x5a), b = depth(call, 0xa5);
+    return a > b ? a : b;
+}
+
+static size_t bytes(uint32_t (*call)(void))
+{
+    return deepest(call) - deepest(call_nothing) + sizeof(void *);
+}
+
+/* Turns to one length, with a fresh stream of it where it is offered, and else one of no length. */
+static void turn_to(size_t length)
+{
+    n = length;
+    m = n / 2;
+    memset(state, 0, sizeof state);
+    fresh();
+}
+
+/* Random samples and coefficients, over the whole of either range. */
+static void prepare(void)
+{
+    uint32_t z = 1;
+    for (size_t i = 0; i < sizeof samples / sizeof samples[0]; i++)
+        samples[i] = (int16_t)((z = z * 1664525u + 1013904223u) >> 16);
+    for (size_t i = 0; i < sizeof spectra / sizeof spectra[0]; i++)
+        spectra[i] = (int32_t)((z = z * 1664525u + 1013904223u) >> 2) - 536870912;
+}
+
+static void print_row(const struct call *call)
+{
+    printf("| %s |", call->name);
+    for (int l = 0; l < LENGTHS; l++) {
+        turn_to(lengths[l]);
+        refused = 0;
+        size_t taken = bytes(call->run);
+        if (refused)
+            printf(NOT_OFFERED);
+        else
+            printf(" %zu |", taken);
+    }
+    printf("\n");
+}
+
+int main(void)
+{
+    prepare();
+    print_head("bytes of stack");
+    for (int c = 0; c < CALLS; c++)
+        print_row(&calls[c]);
+    return 0;
+}

@@ -1,0 +1,15 @@
+-- `rise_216` by computing.
+use Rattle.arithmetic.specs.Lists.{table}
+use Rattle.cosine.specs.Cosine.{reduced, toHalf, toTurn, continued}
+use Rattle.cosine.specs.TableLaws.{numbers}
+use Rattle.cosine.specs.CosineLaws.{tableC}
+use Rattle.tables.specs.HalfLaws.{riseNumbers, rise-numbers}
+use Rattle.tables.proofs.rise_216.Statement.{statement}
+use Rattle.tables.proofs.rise_216.Tie as tie
+
+returns : tie.Need-returns
+unfolding riseNumbers table tableC continued toTurn toHalf reduced numbers
+returns c = rise-numbers 216
+
+pub rise-216-spec : {M : Type 1} → statement M
+rise-216-spec = tie.close (tie.spec returns)
