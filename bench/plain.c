@@ -48,16 +48,16 @@ void PLAIN(init)(void)
     EACH_LENGTH(FILL, )
 }
 
-/* rnd(a / 2^k): a right shift of a negative number is arithmetic in gcc. */
+/* rnd(a / 2^k), an exact half going away from zero: a right shift of a negative number is arithmetic in gcc. */
 INLINE int64_t rnd(int64_t a, int k)
 {
-    return (a + ((int64_t)1 << (k - 1))) >> k;
+    return (a + (a >> 63) + ((int64_t)1 << (k - 1))) >> k;
 }
 
 /* rnd((a) / (n × 2^30)), clamped to a sample: the shift first, then a floored division by n. */
 INLINE int16_t sample(int64_t a, int64_t n)
 {
-    int64_t b = (a + (n << 29)) >> 30;
+    int64_t b = (a + (a >> 63) + (n << 29)) >> 30;
     int64_t q = b / n;
     q -= b % n < 0;
     return (int16_t)(q < -32768 ? -32768 : q > 32767 ? 32767 : q);

@@ -42,6 +42,17 @@ struct Compare {
     calls: u64,
 }
 
+/// Samples, one more where they are -32,768, whose turned number is no sample; and the same with their signs turned.
+fn opposites(x: &[i16]) -> (Vec<i16>, Vec<i16>) {
+    let x: Vec<i16> = x.iter().map(|&s| s.max(-i16::MAX)).collect();
+    let turned = x.iter().map(|&s| -s).collect();
+    (x, turned)
+}
+
+fn negated(x: &[i32]) -> Vec<i32> {
+    x.iter().map(|&c| -c).collect()
+}
+
 /// Prints what was handed in and what came back, and ends the program.
 fn mismatch(call: &str, input: &dyn Debug, library: &dyn Debug, reference: &dyn Debug) -> ! {
     println!("differential: {call} answers otherwise than the documents\n  input:     {input:?}\n  library:   {library:?}\n  reference: {reference:?}");
@@ -215,12 +226,16 @@ impl Compare {
         }
         for route in routes_of(n) {
             for x in half_blocks(&self.bank, &mut self.random, route, n) {
-                self.analyse(route, n, &x, m);
+                self.turned(route, n, &x);
+            }
+            for _ in 0..500 {
+                let x = samples(&mut self.random, n);
+                self.turned(route, n, &x);
             }
         }
         if offered(Route::Short, n) {
             for x in split_half_blocks(&self.bank, &mut self.random, n) {
-                self.analyse(Route::Short, n, &x, m);
+                self.turned(Route::Short, n, &x);
             }
         }
         for _ in 0..4000 {
@@ -330,8 +345,35 @@ impl Compare {
         }
     }
 
+    /// A block, and without its samples of -32,768 the same with its sign turned: its coefficients have their signs turned (document 02, P5).
+    fn turned(&mut self, route: Route, n: usize, x: &[i16]) {
+        self.analyse(route, n, x, n / 2);
+        let (x, turned) = opposites(x);
+        let (_, first) = self.analyse(route, n, &x, n / 2);
+        let (_, second) = self.analyse(route, n, &turned, n / 2);
+        if second != negated(&first) {
+            mismatch("analyse, sign turned", &(route, n, x), &second, &negated(&first));
+        }
+    }
+
+    /// The same of a recording.
+    fn turned_recording(&mut self, route: Route, n: usize, hops: usize) {
+        let (wide, long) = (hops * n / 2, (hops + 1) * n / 2);
+        let (x, turned) = opposites(&samples(&mut self.random, wide));
+        let (_, first) = self.analyse_recording(route, n, hops, &x, long);
+        let (_, second) = self.analyse_recording(route, n, hops, &turned, long);
+        if second != negated(&first) {
+            mismatch("analyse_recording, sign turned", &(route, n, x), &second, &negated(&first));
+        }
+    }
+
     fn recordings(&mut self, n: usize) {
         let m = n / 2;
+        for hops in [1, 2, 5, 20] {
+            for route in routes_of(n) {
+                self.turned_recording(route, n, hops);
+            }
+        }
         for hops in [1, 2, 3, 4, 7, 20] {
             for _ in 0..40 {
                 for route in ROUTES {

@@ -1,4 +1,4 @@
-//! Document 01, with P1, P2 and P4 of document 02, written out anew: exact series, naive sums, floored division. It shares no table with any other file.
+//! Document 01, with P1, P2, P4 and P5 of document 02, written out anew: exact series, naive sums, rounding by size. It shares no table with any other file.
 
 /// A natural number of any size, in base 2^64, lowest digit first.
 #[derive(Clone)]
@@ -112,10 +112,10 @@ pub enum Route {
     Short,
 }
 
-/// rnd(a/b): the floor of (a + b/2)/b.
+/// rnd(a/b), an exact half going away from zero: by size, the floor of (|a| + b/2)/b, with the sign of a.
 pub fn rnd(a: i128, b: i128) -> i128 {
     assert!(b > 0 && b % 2 == 0);
-    (a + b / 2).div_euclid(b)
+    a.signum() * ((a.abs() + b / 2) / b)
 }
 
 pub fn tabled(n: usize) -> bool {

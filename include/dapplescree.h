@@ -3,8 +3,9 @@
  * Link target/staticlib/libc_face.a (`rt staticlib c_face`). N is the block length: 12, 24, 36, 72, 108 or 216, the tabled lengths. M = N/2 is
  * a hop. Direct analysis and synthesis are offered at every tabled length, the short route at 12, 24, 36 and 72. A sample is an int16_t. A
  * coefficient is an int32_t counted in units of 1/64. y, S, X, U, V, rnd, W and K below are those of document 01, with the turn cut in 864
- * parts (document 02, P4). A recording has one hop of zeros put before it and one after it: of H hops it has H + 1 blocks, and block b, b from
- * 0 to H, covers its hops b - 1 and b, those outside it being zeros.
+ * parts and an exact half going away from zero (document 02, P4 and P5): sound without -32,768 has, with its sign turned, the same
+ * coefficients with their signs turned. A recording has one hop of zeros put before it and one after it: of H hops it has H + 1 blocks, and
+ * block b, b from 0 to H, covers its hops b - 1 and b, those outside it being zeros.
  *
  * Each call returns a number:
  *

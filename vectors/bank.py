@@ -1,4 +1,4 @@
-"""Document 01, with P1, P2 and P4 of document 02, in exact whole numbers, as plainly as they are written: the source of every stored output.
+"""Document 01, with P1, P2, P4 and P5 of document 02, in exact whole numbers, as plainly as they are written: the source of every stored output.
 It shares no table, folding or rounding with the crates."""
 from fractions import Fraction
 from functools import cache
@@ -12,8 +12,9 @@ P = Fraction(3141592653589793, 10**15)
 
 
 def rnd(a, b):
-    """The nearest whole number to a/b, an exact half going up."""
-    return floor(Fraction(2 * a + b, 2 * b))
+    """The nearest whole number to a/b, an exact half going away from zero: by size, with the sign of a."""
+    size = (abs(a) + b // 2) // b
+    return -size if a < 0 else size
 
 
 def series(t):

@@ -239,7 +239,7 @@ text(80, y + 7, "−", 20, weight="bold", fill=RED)
 y = entry(4, 40, "two fold partners: windowed samples that make one sum")
 path([(52, y - 6), (52, y + 5), (86, y + 5), (86, y - 6)], DEEP_FIRST, 1.3)
 for i, name, words in (
-    (5, "rnd", "the nearest whole number, an exact half going up"),
+    (5, "rnd", "the nearest whole number, an exact half going away from zero"),
     (6, "C(t)", "the nearest whole number to 2²⁶ times the cosine of t/864 of a turn"),
 ):
     text(94, entry(i, 40, words) + 5, name, 14, "end")

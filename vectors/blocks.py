@@ -1,6 +1,7 @@
 """Writes what crates/check_blocks must print: python3 vectors/blocks.py > crates/check_blocks/stdout"""
 from functools import reduce
 
+import halves
 from bank import LENGTHS, ROUTES, K, analyse
 
 ROOM = 220
@@ -18,6 +19,10 @@ def total(entries):
 def shown(entries):
     """The entries, or the length and the sum of many."""
     return entries if len(entries) <= SHOWN else [len(entries), total(entries)]
+
+
+def put(x, i, v):
+    return x[:i] + [v] + x[i + 1 :]
 
 
 def both(N, x, l, m):
@@ -86,3 +91,6 @@ for N in LENGTHS:
     named(N)
 for N, l, m in ((0, 1, 1), (11, 11, 5), (13, 13, 6), (48, 48, 24), (2**64 - 1, 80, 40), (107, 107, 53), (144, 144, 72), (217, 217, 108), (432, 216, 108)):
     untabled(N, l, m)
+for N in LENGTHS:
+    for _, (i, v, j, w) in halves.found(N):
+        block(N, put(put([0] * ROOM, i, v), j, w))

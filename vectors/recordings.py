@@ -13,11 +13,6 @@ ABOVE, BELOW = MOST + 1, LEAST - 1
 ENDLESS = 2**64 - 1
 
 
-def nearest(a, b):
-    """bank's rnd in whole numbers alone, for an even b."""
-    return (a + b // 2) // b
-
-
 @cache
 def rows(N):
     """K(n,k), a list over k for each n."""
@@ -35,19 +30,16 @@ def quick_S(N, y):
 
 
 def quick_U(N, X):
-    return [nearest(sum(map(mul, X, row)), 2**26) for row in rows(N)]
+    return [bank.rnd(sum(map(mul, X, row)), 2**26) for row in rows(N)]
 
 
 def quicken():
-    """Has bank's calls sum over lists and round without fractions: thousands of blocks then take a minute or two, not an hour."""
-    for b in (2, 2**18, 2**26, 2**28, 2**29, 12 * 2**30, 216 * 2**30):
-        for a in range(-9, 10):
-            assert all(nearest(a * b // 2 + i, b) == bank.rnd(a * b // 2 + i, b) for i in (-1, 0, 1))
+    """Has bank's calls sum over lists: thousands of blocks then take a minute or two, not an hour."""
     for N in LENGTHS:
         block = noise(N, N, 32768)
         assert quick_S(N, block) == bank.S(N, block)
         assert quick_U(N, block[: N // 2]) == bank.U(N, block[: N // 2])
-    bank.rnd, bank.S, bank.U = nearest, quick_S, quick_U
+    bank.S, bank.U = quick_S, quick_U
     bank.W, bank.L = cache(bank.W), cache(bank.L)
 
 

@@ -37,7 +37,7 @@ def bounds(N):
 
 def excess(a, k):
     """2^k × rnd(a / 2^k) − a."""
-    return ((a + (1 << k - 1)) >> k << k) - a
+    return (rnd(a, 1 << k) << k) - a
 
 
 class Joint:
@@ -57,13 +57,13 @@ class Joint:
 
     def load(self, x):
         self.x = list(x)
-        self.y = [[(self.window[i] * x[at + i] + 2**17) >> 18 for i in range(self.N)] for at, *_ in self.blocks]
+        self.y = [[rnd(self.window[i] * x[at + i], 2**18) for i in range(self.N)] for at, *_ in self.blocks]
         self.S = [[sum(y[i] * self.kernel[i][k] for i in range(self.N)) for k in range(self.M)] for y in self.y]
 
     def put(self, b, i, value):
         """Changes sample i of block b, one that the other block does not cover."""
         self.x[self.blocks[b][0] + i] = value
-        new = (self.window[i] * value + 2**17) >> 18
+        new = rnd(self.window[i] * value, 2**18)
         change = new - self.y[b][i]
         self.y[b][i] = new
         self.S[b] = [s + change * c for s, c in zip(self.S[b], self.kernel[i])]
@@ -73,9 +73,9 @@ class Joint:
         N, x, parts, E = self.N, self.x, dict.fromkeys(STAGES, 0), 0
         for (start, m, mirror, sign), y, S in zip(self.blocks, self.y, self.S):
             w, row = self.window[m], self.kernel[m]
-            X = [(s + 2**27) >> 28 for s in S]
+            X = [rnd(s, 2**28) for s in S]
             T = sum(a * c for a, c in zip(X, row))
-            E += w * ((T + 2**25) >> 26)
+            E += w * rnd(T, 2**26)
             parts["U"] += w * excess(T, 26) << 28
             parts["X"] += w * sum(((a << 28) - s) * c for a, s, c in zip(X, S, row))
             parts["gram"] += w * (sum(s * c for s, c in zip(S, row)) - (N << 50) * (y[m] + sign * y[mirror]))
@@ -91,9 +91,9 @@ class Joint:
     def part_of(self, b, stage):
         """What block b brings to the part of X, or to E."""
         w, row, S = self.window[self.blocks[b][1]], self.kernel[self.blocks[b][1]], self.S[b]
-        T = sum((s + 2**27 >> 28) * c for s, c in zip(S, row))
+        T = sum(rnd(s, 2**28) * c for s, c in zip(S, row))
         if stage == "all":
-            return w * (T + 2**25 >> 26)
+            return w * rnd(T, 2**26)
         return w * ((T << 28) - sum(s * c for s, c in zip(S, row)))
 
     def room(self):

@@ -1,6 +1,7 @@
 """Writes what crates/check_stream must print: python3 vectors/stream.py > crates/check_stream/stdout"""
 from functools import reduce
 
+import halves
 from bank import LENGTHS, STORAGE, K, W, fresh, step, tail_limit
 
 ROOM = 112
@@ -210,3 +211,14 @@ for N in LENGTHS[:-1]:
     forged(N, N // 2, 0, STORAGE - 1, 2**63 - 1)
     kept(N, N // 2, -(2**63))
     kept(N, N // 2, 2**63 - 1)
+for N in LENGTHS:
+    differ = 0
+    for c in (halves.in_U(N), -halves.in_U(N)):
+        x = put([0] * ROOM, 0, c)
+        call = step, fresh(N)[1], x[: N // 2], N // 2
+        differ += step(*call[1:]) != halves.by_the_rule_before(*call)
+        offer(fresh(N)[1], x, N // 2, N // 2)
+    assert differ
+for N in LENGTHS:
+    for t in (-N * 2**29, N * 2**29):
+        offer((N, [t] * STORAGE), [0] * ROOM, N // 2, N // 2)

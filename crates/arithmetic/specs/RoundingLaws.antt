@@ -1,17 +1,17 @@
 -- Laws of floor, rnd and clamp. Nothing above this crate opens their text.
-use mathlib.Core.Path.{_≡_, refl, _∙_}
+use mathlib.Core.Path.{_≡_, refl, sym, ap, _∙_}
 use mathlib.Core.Bool.{Bool, true, false}
-use mathlib.Core.Logic.{⊎-elim}
-use Prim.Native.Nat.{ℕ, _+_, _*_, _/_, _^_, _≤_, _<_}
-use native.Mathlib.Nat.{div-le-self, div-add-mod, mod-lt, mul-le-mul-left, mul-pos}
+use mathlib.Core.Logic.{_⊎_, inl, inr, ⊎-elim}
+use Prim.Native.Nat.{ℕ, zero, suc, _+_, _*_, _/_, _^_, _≤_, _<_}
+use native.Mathlib.Nat.{div-le-self, div-eq-of-lt, div-add-mod, mod-lt, mul-le-mul-left, mul-pos}
 use native.Mathlib.Omega.{arith, by-contra}
-use lib.IntN.{ℤ, pos, negsuc, natAbs, _+ℤ_, _-ℤ_, _*ℤ_}
-use lib.Signed.{_≤ℤ_, _<ℤ_, shrZ, ltZ, ≤ℤ-refl}
+use lib.IntN.{ℤ, pos, negsuc, negℤ, negℤ-negℤ, natAbs, _+ℤ_, _-ℤ_, _*ℤ_}
+use lib.Signed.{_≤ℤ_, _<ℤ_, mag, shrZ, ltZ, ≤ℤ-refl}
 use mir.Syntax.{w32, w64}
 use mir.Val.{SFits}
 use Rattle.arithmetic.specs.Rounding.{floor, rnd, clamp, least, largest, Sample}
 use Rattle.arithmetic.specs.IntegerLaws.{ints, posints, zarith}
-use Rattle.arithmetic.specs.OrderLaws.{bounds, mul-le, <ℤ-≤ℤ, ≤ℤ-antisym, abs-mul, abs-is, ltZ-true, ltZ-false}
+use Rattle.arithmetic.specs.OrderLaws.{bounds, posbounds, mul-le, <ℤ-≤ℤ, ≤ℤ-antisym, abs-mul, abs-is, ltZ-true, ltZ-false}
 
 -- ---- floor
 -- q is a/b rounded down: b q ≤ a < b q + b
@@ -70,41 +70,94 @@ floor-floor a c {b} {m} p q r = floor-unique (twice a c b m (floor a b) (floor (
         }
 
 -- ---- rnd, for every b above 0, even or odd
+-- a number with its sign turned rounds to the same with its sign turned
+pub rnd-neg : (a : ℤ) {b : ℕ} → 0 < b → rnd (negℤ a) b ≡ negℤ (rnd a b)
+unfolding rnd
+rnd-neg (pos zero) {b} p =
+    let e : (0 + b / 2) / b ≡ 0 = div-eq-of-lt (omega arith) in
+    rw e
+rnd-neg (pos (suc a)) {b} p = refl
+rnd-neg (negsuc a) {b} p = sym (negℤ-negℤ (pos ((suc a + b / 2) / b)))
+
 pub rnd-near : (a : ℤ) {b : ℕ} → 0 < b → natAbs (pos b *ℤ rnd a b -ℤ a) ≤ b / 2
 unfolding rnd
-rnd-near a {b} p =
-    let f = floor-is (a +ℤ pos (b / 2)) p in
-    simp bounds (omega (arith, simp ints at (f .low), simp ints at (f .high)))
+rnd-near (pos a) {b} p =
+    let m = mod-lt (a + b / 2) p in
+    simp posbounds (omega (arith, div-add-mod (a + b / 2) b))
+rnd-near (negsuc a) {b} p =
+    let m = mod-lt (suc a + b / 2) p in
+    simp posbounds (omega (arith, div-add-mod (suc a + b / 2) b))
 
-pub rnd-mono : {a c : ℤ} {b : ℕ} → 0 < b → a ≤ℤ c → rnd a b ≤ℤ rnd c b
-unfolding rnd
-rnd-mono {a} {c} {b} p h = below (simp ints (omega zarith)) (floor-is (a +ℤ pos (b / 2)) p) (floor-is (c +ℤ pos (b / 2)) p)
+-- ---- as the code rounds, by an even number: its half is added, below zero one less, and the floor taken
+-- -1 below zero, and 0 else
+unfoldable pub under : ℤ → ℤ
+under (pos a) = pos 0
+under (negsuc a) = negsuc 0
 
-pub rnd-exact : (q : ℤ) {b : ℕ} → 0 < b → rnd (pos b *ℤ q) b ≡ q
-unfolding rnd
-rnd-exact q {b} p = floor-unique (floor-is (pos b *ℤ q +ℤ pos (b / 2)) p) (record { low = simp posints (omega arith); high = simp posints (omega arith) })
+-- a shift leaves only the sign
+pub under-shr : (a : ℤ) {b : ℕ} → mag a < b → shrZ a b ≡ under a
+unfolding under
+under-shr (pos a) h = ap pos (div-eq-of-lt h)
+under-shr (negsuc a) h = ap negsuc (div-eq-of-lt h)
 
--- rounding by an even number: its half is added, and the floor taken
-pub rnd-half : (a : ℤ) (h : ℕ) {b : ℕ} → 2 * h ≡ b → floor (a +ℤ pos h) b ≡ rnd a b
-unfolding rnd
-rnd-half a h {b} e =
-    let f : b / 2 ≡ h = omega (arith, e) in
-    rw f
+pub under-abs : (a : ℤ) → natAbs (under a) ≤ 1
+unfolding under
+under-abs (pos a) = omega arith
+under-abs (negsuc a) = omega arith
+
+-- s is what is added to a: at zero, either
+pub Under : ℤ → ℤ → Type 0
+Under a s = ((pos 0 ≤ℤ a) × (s ≡ pos 0)) ⊎ ((a ≤ℤ pos 0) × (s ≡ negsuc 0))
+
+-- a multiple has the sign of its factor, or is zero
+pub under-times : (w : ℕ) (a : ℤ) → Under (pos w *ℤ a) (under a)
+unfolding under Under
+under-times w (pos a) = inl (simp posints (omega arith), refl)
+under-times w (negsuc a) = inr (simp posints (omega arith), refl)
+
+pub under-self : (a : ℤ) → Under a (under a)
+unfolding under Under
+under-self (pos a) = inl (simp ints (omega arith), refl)
+under-self (negsuc a) = inr (simp ints (omega arith), refl)
+
+module _ (h : ℕ) {b : ℕ} (p : 0 < b) (e : 2 * h ≡ b) where
+  up : (a : ℤ) → pos 0 ≤ℤ a → Floor (a +ℤ pos 0 +ℤ pos h) b (rnd a b)
+  unfolding rnd
+  up (pos a) l =
+      let m = mod-lt (a + b / 2) p in
+      record { low = simp posints (omega (arith, e, div-add-mod (a + b / 2) b)); high = simp posints (omega (arith, e, div-add-mod (a + b / 2) b)) }
+  up (negsuc a) l = absurd (omega (arith, simp ints at l))
+
+  down : (a : ℤ) → a ≤ℤ pos 0 → Floor (a +ℤ negsuc 0 +ℤ pos h) b (rnd a b)
+  unfolding rnd
+  down (pos a) l =
+      let z : a ≡ 0 = omega (arith, simp ints at l) in
+      let q : (a + b / 2) / b ≡ 0 = div-eq-of-lt (omega arith) in
+      rw q (record { low = simp posints (omega (arith, e)); high = simp posints (omega (arith, e)) })
+  down (negsuc a) l =
+      let m = mod-lt (suc a + b / 2) p in
+      record { low = simp posints (omega (arith, e, div-add-mod (suc a + b / 2) b)); high = simp posints (omega (arith, e, div-add-mod (suc a + b / 2) b)) }
+
+  pub rnd-half : (a s : ℤ) → Under a s → floor (a +ℤ s +ℤ pos h) b ≡ rnd a b
+  unfolding Under
+  rnd-half a s u =
+      floor-unique (floor-is (a +ℤ s +ℤ pos h) p)
+      (⊎-elim (λ (k : (pos 0 ≤ℤ a) × (s ≡ pos 0)). rw (k .1) (up a (k .0))) (λ (k : (a ≤ℤ pos 0) × (s ≡ negsuc 0)). rw (k .1) (down a (k .0))) u)
 
 -- rounding by b m: the half is added first, and then a floor taken by each
-pub rnd-parts : (a : ℤ) (h : ℕ) {b m : ℕ} → 0 < b → 0 < m → 2 * h ≡ b * m → floor (floor (a +ℤ pos h) b) m ≡ rnd a (b * m)
-rnd-parts a h {b} {m} p q e =
-    let z = a +ℤ pos h in
-    let u : floor z b +ℤ pos 0 ≡ floor z b = simp ints (omega arith) in
+pub rnd-parts : (a s : ℤ) (h : ℕ) {b m : ℕ} → 0 < b → 0 < m → 2 * h ≡ b * m → Under a s → floor (floor (a +ℤ s +ℤ pos h) b) m ≡ rnd a (b * m)
+rnd-parts a s h {b} {m} p q e u =
+    let z = a +ℤ s +ℤ pos h in
+    let v : floor z b +ℤ pos 0 ≡ floor z b = simp ints (omega arith) in
     let w : z +ℤ pos b *ℤ pos 0 ≡ z = simp ints (omega arith) in
-    rw u at (rw w at (floor-floor z (pos 0) p q (mul-pos p q))) ∙ rnd-half a h e
+    rw v at (rw w at (floor-floor z (pos 0) p q (mul-pos p q))) ∙ rnd-half h (mul-pos p q) e a s u
 
 -- rounding by 2 h m, after a floor by h: the half, h m, comes out as m
-pub rnd-after : (a : ℤ) (h m : ℕ) → 0 < h → 0 < m → floor (floor a h +ℤ pos m) (2 * m) ≡ rnd a (h * (2 * m))
-unfolding rnd
-rnd-after a h m p q =
-    let half : h * (2 * m) / 2 ≡ h * m = omega arith in
-    rw half (floor-floor a (pos m) {b = h} {m = 2 * m} p (omega arith) (mul-pos p (omega arith)))
+pub rnd-after : (a s : ℤ) (h m : ℕ) → 0 < h → 0 < m → Under a s → floor (floor (a +ℤ s) h +ℤ pos m) (2 * m) ≡ rnd a (h * (2 * m))
+rnd-after a s h m p q u =
+    let half : 2 * (h * m) ≡ h * (2 * m) = omega arith in
+    let r : 0 < h * (2 * m) = mul-pos p (omega arith) in
+    floor-floor (a +ℤ s) (pos m) {b = h} {m = 2 * m} p (omega arith) r ∙ rnd-half (h * m) r half a s u
 
 -- sizes
 pub rnd-abs : (a : ℤ) {b : ℕ} → 0 < b → b * natAbs (rnd a b) ≤ natAbs a + b / 2

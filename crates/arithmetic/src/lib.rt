@@ -8,6 +8,7 @@ ghost use lib.Signed.{_≤ℤ_, _<ℤ_, shrZ};
 ghost use mir.Syntax.{w64};
 ghost use mir.Val.{SFits};
 ghost use Rattle.arithmetic.specs.Rounding.{floor, rnd, clamp};
+ghost use Rattle.arithmetic.specs.RoundingLaws.{under};
 ghost use Rattle.arithmetic.specs.SampleLaws.{limited};
 ghost use Rattle.arithmetic.specs.QuotientLaws.{quarters, splits};
 
@@ -19,12 +20,19 @@ fn shifted(a: i64, k: u32) -> i64
     a >> k
 }
 
-// rnd(a / 2^k): the half is added, and the shift takes the floor.
+// What is added to a number before it is rounded, so that an exact half goes away from zero: -1 below zero, and 0 else. The shift leaves only the sign.
+fn tilt(a: i64) -> i64
+    ensures { λ r. ⌜ r ≡ under a ⌝ }
+{
+    a >> 63
+}
+
+// rnd(a / 2^k): the half is added to a, tilted, and the shift takes the floor.
 pub fn rnd_shift(a: i64, k: u32) -> i64
     requires { ⌜ (2 ≤ k) × (k < 63) × (natAbs a ≤ 2 ^ 62) ⌝ }
     ensures { λ r. ⌜ r ≡ rnd a (2 ^ k) ⌝ }
 {
-    shifted(a + (1i64 << (k - 1)), k)
+    shifted(a + tilt(a) + (1i64 << (k - 1)), k)
 }
 
 // b, limited to least..=most.
@@ -97,13 +105,13 @@ fn upper(a: i64) -> i32
     (a >> 32) as i32
 }
 
-// A sample of a hop: rnd(a / (n × 2^30)), clamped. The half is added, the upper word taken, and what is left to divide by is a quarter of n.
+// A sample of a hop: rnd(a / (n × 2^30)), clamped. The half is added to a, tilted, the upper word taken, and what is left to divide by is a quarter of n.
 pub fn sample(a: i64, n: usize) -> i16
     requires { ⌜ T (splits n) ⌝ }
     requires { ⌜ natAbs a ≤ n * 2 ^ 55 ⌝ }
     ensures { λ r. ⌜ r ≡ clamp (rnd a (n * 2 ^ 30)) ⌝ }
 {
-    clamped(upper(a + (536870912 * n) as i64), n / 4)
+    clamped(upper(a + tilt(a) + (536870912 * n) as i64), n / 4)
 }
 
 // The size of v: its number without its sign. The least i64 has one too.

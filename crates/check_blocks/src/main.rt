@@ -218,6 +218,72 @@ fn offered(n: usize, m: usize)
     named(n);
 }
 
+// Samples v at place i and w at place j, and silence.
+fn pair(n: usize, i: usize, v: i16, j: usize, w: i16)
+    requires { ⌜ (n ≤ 216) × (i < 220) × (j < 220) ⌝ }
+{
+    let mut x = impulse(i, v);
+    x[j] = w;
+    block(n, x);
+}
+
+// Blocks in which y, X, A, rB, rC, B + D and B - D meet an exact half below zero, a line for each, as vectors/halves.py finds them.
+fn halves_12() {
+    pair(12, 0, -16384, 1, 2);
+    pair(12, 0, 22648, 1, -31887);
+    pair(12, 0, 29547, 2, 1449);
+    pair(12, 3, 7782, 11, -31277);
+    pair(12, 3, 21368, 11, -27347);
+    pair(12, 1, 10464, 0, -21011);
+    pair(12, 1, -11016, 0, -28904);
+}
+
+fn halves_24() {
+    pair(24, 3, -32768, 4, 2);
+    pair(24, 0, -2071, 1, -28753);
+    pair(24, 0, 11518, 1, -2137);
+    pair(24, 7, 15907, 23, -31618);
+    pair(24, 7, 23044, 23, -32498);
+    pair(24, 1, -26072, 0, -31697);
+    pair(24, 1, -17397, 0, -15645);
+}
+
+fn halves_36() {
+    pair(36, 0, -24576, 1, 1);
+    pair(36, 0, 26282, 1, -28661);
+    pair(36, 0, 6211, 1, 5600);
+    pair(36, 11, 12948, 35, -31105);
+    pair(36, 11, 7126, 35, -31327);
+    pair(36, 1, -23189, 0, -30886);
+    pair(36, 1, 2398, 0, 2324);
+}
+
+fn halves_72() {
+    pair(72, 0, -32768, 1, 1);
+    pair(72, 0, -19629, 1, -29601);
+    pair(72, 0, -26894, 1, 25811);
+    pair(72, 23, 30783, 71, -31555);
+    pair(72, 23, 27462, 71, -32522);
+    pair(72, 1, -25562, 0, -25268);
+    pair(72, 1, 13215, 0, -26755);
+}
+
+// At the two longest lengths y and X.
+fn halves_long() {
+    pair(108, 0, -16384, 1, 1);
+    pair(108, 0, -27483, 1, -29584);
+    pair(216, 1, -32768, 2, 1);
+    pair(216, 0, 20764, 1, -32597);
+}
+
+fn halves() {
+    halves_12();
+    halves_24();
+    halves_36();
+    halves_72();
+    halves_long();
+}
+
 fn main() {
     offered(12, 6);
     offered(24, 12);
@@ -234,4 +300,5 @@ fn main() {
     untabled(144, 144, 72);
     untabled(217, 217, 108);
     untabled(432, 216, 108);
+    halves();
 }

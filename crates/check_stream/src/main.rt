@@ -511,6 +511,55 @@ fn long_tails() {
     );
 }
 
+// A fresh stream and the coefficient c alone, with either sign: U at place M, which the tail shows, meets an exact half above zero and below.
+fn half_value(n: usize, m: usize, c: i32)
+    requires { ⌜ m ≤ 108 ⌝ }
+{
+    let made = filter_bank::fresh(n);
+    offer(made.stream, with(noise(0, 0), 0, c), m, m);
+}
+
+// A tail of t, which is half a sample, above zero or below, and no coefficients.
+fn half_sample(n: usize, m: usize, t: i64)
+    requires { ⌜ m ≤ 108 ⌝ }
+{
+    let s = Stream {
+        n: n,
+        tail: [t; stream::STORAGE],
+    };
+    offer(s, noise(0, 0), m, m);
+}
+
+fn half_values() {
+    half_value(12, 6, 33554432);
+    half_value(12, 6, -33554432);
+    half_value(24, 12, 33554432);
+    half_value(24, 12, -33554432);
+    half_value(36, 18, 33554432);
+    half_value(36, 18, -33554432);
+    half_value(72, 36, 33554432);
+    half_value(72, 36, -33554432);
+    half_value(108, 54, 33554432);
+    half_value(108, 54, -33554432);
+    half_value(216, 108, 8388608);
+    half_value(216, 108, -8388608);
+}
+
+fn half_samples() {
+    half_sample(12, 6, -6442450944);
+    half_sample(12, 6, 6442450944);
+    half_sample(24, 12, -12884901888);
+    half_sample(24, 12, 12884901888);
+    half_sample(36, 18, -19327352832);
+    half_sample(36, 18, 19327352832);
+    half_sample(72, 36, -38654705664);
+    half_sample(72, 36, 38654705664);
+    half_sample(108, 54, -57982058496);
+    half_sample(108, 54, 57982058496);
+    half_sample(216, 108, -115964116992);
+    half_sample(216, 108, 115964116992);
+}
+
 fn main() {
     made(12);
     made(24);
@@ -539,4 +588,6 @@ fn main() {
     beyond(36, 18);
     beyond(72, 36);
     beyond(108, 54);
+    half_values();
+    half_samples();
 }

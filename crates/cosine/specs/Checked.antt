@@ -1,4 +1,5 @@
--- The twelve values that document 01 marks to be proved ('Checked values'), as one table: what is computed, and its value. The whole table is proved.
+-- The twelve values that document 01 marks to be proved ('Checked values'), as one table: what is computed, and its value. The whole table is proved. The roundings of -1/2 and
+-- -3/2 are as document 02, P5, has them.
 use mathlib.Core.Path.{_≡_}
 use mathlib.Core.Bool.{Bool}
 use mathlib.Core.List.{List, [], _∷_}
@@ -24,8 +25,8 @@ a is b = record { computed = a; value = b }
 unfoldable pub checked : List Checked
 checked =
     (rnd (pos 1) 2 is pos 1) ∷
-    (rnd (negℤ (pos 1)) 2 is pos 0) ∷
-    (rnd (negℤ (pos 3)) 2 is negℤ (pos 1)) ∷
+    (rnd (negℤ (pos 1)) 2 is negℤ (pos 1)) ∷
+    (rnd (negℤ (pos 3)) 2 is negℤ (pos 2)) ∷
     (rnd (negℤ (pos 5)) 4 is negℤ (pos 1)) ∷
     (C (pos 0) is pos 67108864) ∷
     (C (pos 72) is pos 58117981) ∷

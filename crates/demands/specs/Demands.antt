@@ -191,7 +191,7 @@ pub record Demand-1 : Type 0 where
   pub state-stepped : (state x out : List ℤ) → StateStepAnswers state x out
   pub listed : (text : List ℕ) → ListingAnswers text
 
--- ================ DEMAND 2: every coefficient and every sample is document 01's with a turn of 864 parts (P4), of a recording between the two hops of zeros of document 02, P1, and every byte of a page is P2's
+-- ================ DEMAND 2: every coefficient and every sample is document 01's with a turn of 864 parts (P4) and halves going away from zero (P5; its sign rule is in Turned), of a recording between the two hops of zeros of document 02, P1, and every byte of a page is P2's
 -- y(n) = rnd(W(n) × x(n) / 2^18)
 abbrev pub y : ℕ → List ℤ → ℕ → ℤ
 y N x n = rnd (W N n *ℤ at x n) (2 ^ 18)

@@ -47,6 +47,8 @@ use Rattle.demands.specs.ChainLaws.{fresh-calls, calls-there-and-back, c
 use Rattle.demands.specs.DefinitionLaws.{demand-2}
 use Rattle.demands.specs.BackLaws.{back-by-one-call, back-block-by-block}
 use Rattle.demands.specs.UnchangedLaws.{unchanged-taken, unchanged-back}
+use Rattle.demands.specs.Turned.{opposite}
+use Rattle.demands.specs.TurnLaws.{sign-rule}
 use Rattle.demands.specs.Example.{minus, recording, routes, knock, directly, changed, block-0, block-1, block-2, block-3, knock-1, room, small-room, five, loud, low, offer, offers, knock-offers, whole, hops-room, knock-whole}
 
 -- ---- the definitions that the tests below open, under one name
@@ -324,6 +326,29 @@ ramp-played = unchanged-taken 216 1 ramp (replicate 216 (pos 9)) (samples-of ram
 
 pub ramp-back : (out : List ℤ) → length out ≡ 108 → playedOut 216 1 (recordedOut Direct 216 1 ramp (replicate 216 (pos 9))) out ≡ ramp
 ramp-back = unchanged-back 216 1 ramp (replicate 216 (pos 9)) (samples-of ramp ramp-samples) ramp-analysed
+
+-- with its sign turned it has the turned coefficients
+turned-taken : recordedCode Direct 216 1 (opposite ramp) (replicate 216 (pos 9)) ≡ 0
+unfolding answers ramp opposite
+turned-taken = refl
+
+pub ramp-turned : recordedOut Direct 216 1 (opposite ramp) (replicate 216 (pos 9)) ≡ opposite (recordedOut Direct 216 1 ramp (replicate 216 (pos 9)))
+ramp-turned = sign-rule .recorded Direct 216 1 ramp (replicate 216 (pos 9)) (replicate 216 (pos 9)) ramp-analysed turned-taken
+
+-- and so has a block by the short route: its own coefficients, and those of the turned block
+pub twelve-samples : List ℤ
+twelve-samples = pos 7 ∷ minus 8 ∷ pos 32767 ∷ minus 32767 ∷ pos 1 ∷ pos 0 ∷ pos 5 ∷ pos 5 ∷ minus 5 ∷ pos 5 ∷ minus 900 ∷ pos 5 ∷ []
+
+short-taken : analyseCode Short 12 twelve-samples room ≡ 0
+unfolding answers twelve-samples
+short-taken = refl
+
+short-turned-taken : analyseCode Short 12 (opposite twelve-samples) room ≡ 0
+unfolding answers twelve-samples opposite
+short-turned-taken = refl
+
+pub short-turned : analyseOut Short 12 (opposite twelve-samples) room ≡ opposite (analyseOut Short 12 twelve-samples room)
+short-turned = sign-rule .analysed Short 12 twelve-samples room room short-taken short-turned-taken
 
 knock-analysed : recordedCode Direct 12 1 knock (room ++ room) ≡ 0
 unfolding answers

@@ -15,6 +15,8 @@ pub mod AnswerLaws
 pub mod DefinitionLaws
 pub mod DemandLaws
 pub mod UnchangedLaws
+pub mod Turned
+pub mod TurnLaws
 pub mod Example
 pub mod ExampleLaws
 pub mod ListingLaws

@@ -8,40 +8,13 @@ use lib.Dec.{lit<}
 use lib.ListN.{length, take, drop, length-append, length-drop, List·getD-append, drop-of-length-le}
 use lib.Seq.{take-at, drop-at, drop-drop, getD-take, getD-append-add}
 use lib.IntN.{ℤ, pos, natAbs, _+ℤ_, _*ℤ_}
-use lib.Signed.{_≤ℤ_}
 use Rattle.arithmetic.specs.Rounding.{floor, rnd}
 use Rattle.arithmetic.specs.Lists.{at, table, Small}
-use Rattle.arithmetic.specs.IntegerLaws.{pp, np, posints}
-use Rattle.arithmetic.specs.RoundingLaws.{floor-is, floor-unique, rnd-after}
+use Rattle.arithmetic.specs.IntegerLaws.{pp, np, ints, posints}
+use Rattle.arithmetic.specs.RoundingLaws.{floor-is, floor-unique, under, under-times, rnd-after}
 use Rattle.arithmetic.specs.ListLaws.{length-table, table-ext, part-at}
-use Rattle.cosine.specs.Kernels.{rising, falling}
-use Rattle.cosine.specs.LengthLaws.{Length, whole-part}
-use Rattle.cosine.specs.KernelLaws.{W-low}
 use Rattle.transform.specs.Analysis.{y}
 use Rattle.transform.specs.HopLaws.{windowed, y-first, y-second}
-use Rattle.tables.specs.HalfLaws.{riseList, fallList, rise-length, rise-at, rise-small, fall-length, fall-at, fall-small, Lent}
-
--- no entry is below zero
-pub record NotNegative (xs : List ℤ) : Type 0 where
-  pub low : (i : ℕ) → i < length xs → pos 0 ≤ℤ at xs i
-
--- a half of the window
-pub record Weights (half : List ℤ) : Type 0 where
-  pub small : Small half (2 ^ 26)
-  pub low : NotNegative half
-
-module _ (N : ℕ) (t : Length N) where
-  rise-low : NotNegative (riseList N)
-  unfolding rising
-  rise-low = record { low = λ n p. let q : n < N / 2 = omega (arith, rise-length N) in rw (rise-at N n q) (W-low N (whole-part N t) n (omega arith)) }
-
-  fall-low : NotNegative (fallList N)
-  unfolding falling
-  fall-low = record { low = λ n p. let q : n < N / 2 = omega (arith, fall-length N) in rw (fall-at N n q) (W-low N (whole-part N t) (N / 2 + n) (omega (arith, t .twelve))) }
-
-pub lent-weights : (N : ℕ) (left right : List ℤ) → Lent N left right → Weights left × Weights right
-lent-weights N left right l =
-    (rw (l .rise) (record { small = rise-small N; low = rise-low N (l .whole) }), rw (l .fall) (record { small = fall-small N; low = fall-low N (l .whole) }))
 
 -- a multiple of b comes out of a floor by b
 floor-more : (a c : ℤ) {b : ℕ} → 0 < b → floor (a +ℤ pos b *ℤ c) b ≡ c +ℤ floor a b
@@ -55,10 +28,16 @@ floor-more a c {b} p =
 by-parts : (a : ℤ) (w : ℕ) → pos w *ℤ a ≡ a *ℤ pos (w % 8192) +ℤ pos 8192 *ℤ (a *ℤ pos (w / 8192))
 by-parts a w = let e : w ≡ w % 8192 + 8192 * (w / 8192) = omega arith in simp posints (omega (arith, ap (λ (x : ℕ). x * pp a) e, ap (λ (x : ℕ). x * np a) e))
 
-pub windowed-parts : (a : ℤ) (w : ℕ) → floor (a *ℤ pos (w / 8192) +ℤ floor (a *ℤ pos (w % 8192)) 8192 +ℤ pos 16) 32 ≡ rnd (pos w *ℤ a) (2 ^ 18)
+pub windowed-parts : (a : ℤ) (w : ℕ) → floor (a *ℤ pos (w / 8192) +ℤ floor (a *ℤ pos (w % 8192) +ℤ under a) 8192 +ℤ pos 16) 32 ≡ rnd (pos w *ℤ a) (2 ^ 18)
 windowed-parts a w =
-    ap (λ (z : ℤ). floor (z +ℤ pos 16) 32) (sym (floor-more (a *ℤ pos (w % 8192)) (a *ℤ pos (w / 8192)) {b = 8192} (lit< tt)) ∙ ap (λ (z : ℤ). floor z 8192) (sym (by-parts a w)))
-    ∙ rnd-after (pos w *ℤ a) 8192 16 (lit< tt) (lit< tt)
+    let lo = a *ℤ pos (w % 8192) in
+    let hi = a *ℤ pos (w / 8192) in
+    let e : lo +ℤ under a +ℤ pos 8192 *ℤ hi ≡ pos w *ℤ a +ℤ under a = rw (by-parts a w) (swapped lo (under a) (pos 8192 *ℤ hi)) in
+    ap (λ (z : ℤ). floor (z +ℤ pos 16) 32) (sym (floor-more (lo +ℤ under a) hi {b = 8192} (lit< tt)) ∙ ap (λ (z : ℤ). floor z 8192) e)
+    ∙ rnd-after (pos w *ℤ a) (under a) 8192 16 (lit< tt) (lit< tt) (under-times w a)
+  where
+    swapped : (x y z : ℤ) → x +ℤ y +ℤ z ≡ x +ℤ z +ℤ y
+    swapped x y z = simp ints (omega arith)
 
 -- ---- the block from its two hops
 abbrev pub weighted : List ℤ → List ℤ → List ℤ → List ℤ

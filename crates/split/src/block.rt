@@ -5,12 +5,21 @@ ghost use lib.ListN.{length};
 ghost use lib.IntN.{pos, natAbs, _*ℤ_};
 ghost use lib.Signed.{_≤ℤ_};
 ghost use Rattle.arithmetic.specs.Rounding.{rnd};
+ghost use Rattle.arithmetic.specs.RoundingLaws.{under};
 ghost use Rattle.arithmetic.specs.Lists.{table, Small};
 ghost use Rattle.transform.specs.HopLaws.{windowed};
 ghost use Rattle.split.specs.ShortStepLaws.{interleaved};
-ghost use Rattle.split.specs.WindowLaws.{Weights, weighted};
+ghost use Rattle.tables.specs.HalfLaws.{WindowHalf};
+ghost use Rattle.split.specs.WindowLaws.{weighted};
 
-// rnd(w x / 2^18) in 32 bits: with w = 2^13 hi + lo it is the floor of (hi x + floor(lo x / 2^13) + 2^4) / 2^5.
+// A sample's tilt, as `arithmetic` has it of a sum.
+fn tilt(x: i16) -> i32
+    ensures { λ r. ⌜ r ≡ under x ⌝ }
+{
+    x as i32 >> 31
+}
+
+// rnd(w x / 2^18) in 32 bits: with w = 2^13 hi + lo it is the floor of (hi x + floor((lo x + s) / 2^13) + 2^4) / 2^5, s being the tilt.
 // The remainders tell the compiler that hi and lo have 16 bits: SSE2 multiplies such numbers in one step.
 fn weighted(w: i32, x: i16) -> i32
     requires { ⌜ pos 0 ≤ℤ w ⌝ }
@@ -22,12 +31,12 @@ fn weighted(w: i32, x: i16) -> i32
     let u = w as u32;
     let hi = (u / 8192 % 16384) as i32;
     let lo = (u % 8192) as i32;
-    (a * hi + (a * lo >> 13) + 16) >> 5
+    (a * hi + (a * lo + tilt(x) >> 13) + 16) >> 5
 }
 
 // Sample n, windowed by entry i of a half of the joint, so.
 fn in_parts(half: &[i32], i: usize, x: &[i16], n: usize) -> i32
-    requires { ⌜ Weights (now half) ⌝ }
+    requires { ⌜ WindowHalf (now half) ⌝ }
     requires { ⌜ i < length (now half) ⌝ }
     requires { ⌜ n < length (now x) ⌝ }
     ensures { λ r. ⌜ r ≡ windowed (now (half .entry)) i (now (x .entry)) n ⌝ }
@@ -38,7 +47,7 @@ fn in_parts(half: &[i32], i: usize, x: &[i16], n: usize) -> i32
 
 // The same, in a block of `size`.
 fn windowed(size: usize, half: &[i32], i: usize, x: &[i16], n: usize) -> i32
-    requires { ⌜ Weights (now half) ⌝ }
+    requires { ⌜ WindowHalf (now half) ⌝ }
     requires { ⌜ i < length (now half) ⌝ }
     requires { ⌜ n < length (now x) ⌝ }
     ensures { λ r. ⌜ r ≡ windowed (now (half .entry)) i (now (x .entry)) n ⌝ }
@@ -52,7 +61,7 @@ fn windowed(size: usize, half: &[i32], i: usize, x: &[i16], n: usize) -> i32
 
 // One hop, by its half of the window.
 fn window_hop(size: usize, half: &[i32], x: &[i16], out: &mut [i32])
-    requires { ⌜ Weights (now half) ⌝ }
+    requires { ⌜ WindowHalf (now half) ⌝ }
     requires { ⌜ length (now x) ≡ length (now half) ⌝ }
     requires { ⌜ length (now out) ≡ length (now half) ⌝ }
     ensures { λ _. ⌜ now (out .exit) ≡ table (length (now (half .entry))) (λ n. windowed (now (half .entry)) n (now (x .entry)) n) ⌝ }
@@ -68,8 +77,8 @@ pub fn windowed_block(size: usize, left: &[i32], right: &[i32], x: &[i16], out: 
     requires { ⌜ length (now left) ≡ length (now right) ⌝ }
     requires { ⌜ length (now x) ≡ 2 * length (now left) ⌝ }
     requires { ⌜ length (now out) ≡ length (now x) ⌝ }
-    requires { ⌜ Weights (now left) ⌝ }
-    requires { ⌜ Weights (now right) ⌝ }
+    requires { ⌜ WindowHalf (now left) ⌝ }
+    requires { ⌜ WindowHalf (now right) ⌝ }
     ensures { λ _. ⌜ now (out .exit) ≡ weighted (now (left .entry)) (now (right .entry)) (now (x .entry)) ⌝ }
     ensures { λ _. ⌜ Small (now (out .exit)) (2 ^ 23) ⌝ }
 {

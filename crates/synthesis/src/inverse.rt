@@ -17,7 +17,7 @@ pub fn inverse_12(x: &[i32], v: &mut [i64])
     let fall_12 = tables::fall_12();
     let mut t = [0i64; 6];
     transform::sums::plain_sums(12, x, &rows_12, &mut t);
-    transform::inverse_block(12, &rise_12, &fall_12, x, &t, v);
+    transform::inverse_block(12, &rise_12, &fall_12, x, &mut t, v);
 }
 
 pub fn inverse_24(x: &[i32], v: &mut [i64])
@@ -29,7 +29,7 @@ pub fn inverse_24(x: &[i32], v: &mut [i64])
     let fall_24 = tables::fall_24();
     let mut t = [0i64; 12];
     block_sums::sums_24(x, &mut t);
-    transform::inverse_block(24, &rise_24, &fall_24, x, &t, v);
+    transform::inverse_block(24, &rise_24, &fall_24, x, &mut t, v);
 }
 
 pub fn inverse_36(x: &[i32], v: &mut [i64])
@@ -41,7 +41,7 @@ pub fn inverse_36(x: &[i32], v: &mut [i64])
     let fall_36 = tables::fall_36();
     let mut t = [0i64; 18];
     block_sums::sums_36(x, &mut t);
-    transform::inverse_block(36, &rise_36, &fall_36, x, &t, v);
+    transform::inverse_block(36, &rise_36, &fall_36, x, &mut t, v);
 }
 
 pub fn inverse_72(x: &[i32], v: &mut [i64])
@@ -53,7 +53,7 @@ pub fn inverse_72(x: &[i32], v: &mut [i64])
     let fall_72 = tables::fall_72();
     let mut t = [0i64; 36];
     block_sums::sums_72(x, &mut t);
-    transform::inverse_block(72, &rise_72, &fall_72, x, &t, v);
+    transform::inverse_block(72, &rise_72, &fall_72, x, &mut t, v);
 }
 
 pub fn inverse_108(x: &[i32], v: &mut [i64])
@@ -65,7 +65,7 @@ pub fn inverse_108(x: &[i32], v: &mut [i64])
     let fall_108 = tables::fall_108();
     let mut t = [0i64; 54];
     block_sums::sums_108(x, &mut t);
-    transform::inverse_block(108, &rise_108, &fall_108, x, &t, v);
+    transform::inverse_block(108, &rise_108, &fall_108, x, &mut t, v);
 }
 
 pub fn inverse_216(x: &[i32], v: &mut [i64])
@@ -77,5 +77,5 @@ pub fn inverse_216(x: &[i32], v: &mut [i64])
     let fall_216 = tables::fall_216();
     let mut t = [0i64; 108];
     block_sums::sums_216(x, &mut t);
-    transform::inverse_block(216, &rise_216, &fall_216, x, &t, v);
+    transform::inverse_block(216, &rise_216, &fall_216, x, &mut t, v);
 }

@@ -5,12 +5,13 @@ use Prim.Native.Nat.{ℕ, _+_, _*_, _/_, _^_, _<_}
 use native.Mathlib.Omega.{arith}
 use lib.ListN.{length}
 use lib.IntN.{ℤ, pos, _-ℤ_, _*ℤ_}
+use lib.Signed.{_≤ℤ_}
 use Rattle.arithmetic.specs.Lists.{at, Small, table}
 use Rattle.arithmetic.specs.ListLaws.{length-table, getD-table, table-ext}
 use Rattle.cosine.specs.Kernels.{d, W, rising, falling}
-use Rattle.cosine.specs.LengthLaws.{Length}
+use Rattle.cosine.specs.LengthLaws.{Length, whole-part}
 use Rattle.cosine.specs.CosineLaws.{tableC, C-table}
-use Rattle.cosine.specs.KernelLaws.{W-size}
+use Rattle.cosine.specs.KernelLaws.{W-size, W-low}
 
 -- the halves of the sine window
 unfoldable pub riseList : ℕ → List ℤ
@@ -61,12 +62,30 @@ pub fall-small : (N : ℕ) → Small (fallList N) (2 ^ 26)
 unfolding falling
 fall-small N = record { small = λ n p. rw (fall-at N n (omega (arith, fall-length N))) (W-size N (N / 2 + n)) }
 
+-- no entry is below zero
+pub record NotNegative (xs : List ℤ) : Type 0 where
+  pub low : (i : ℕ) → i < length xs → pos 0 ≤ℤ at xs i
+
+-- a half of the window
+pub record WindowHalf (half : List ℤ) : Type 0 where
+  pub small : Small half (2 ^ 26)
+  pub low : NotNegative half
+
+module _ (N : ℕ) (t : Length N) where
+  rise-low : NotNegative (riseList N)
+  unfolding rising
+  rise-low = record { low = λ n p. let q : n < N / 2 = omega (arith, rise-length N) in rw (rise-at N n q) (W-low N (whole-part N t) n (omega arith)) }
+
+  fall-low : NotNegative (fallList N)
+  unfolding falling
+  fall-low = record { low = λ n p. let q : n < N / 2 = omega (arith, fall-length N) in rw (fall-at N n q) (W-low N (whole-part N t) (N / 2 + n) (omega (arith, t .twelve))) }
+
 -- ---- the halves that are lent: m numbers each
 pub record Halves (m : ℕ) (left right : List ℤ) : Type 0 where
   pub left-long : length left ≡ m
   pub right-long : length right ≡ m
-  pub left-small : Small left (2 ^ 26)
-  pub right-small : Small right (2 ^ 26)
+  pub rise : WindowHalf left
+  pub fall : WindowHalf right
 
 -- and those of a length
 pub record Lent (N : ℕ) (left right : List ℤ) : Type 0 where
@@ -74,11 +93,15 @@ pub record Lent (N : ℕ) (left right : List ℤ) : Type 0 where
   pub rise : left ≡ riseList N
   pub fall : right ≡ fallList N
 
+pub lent-window : (N : ℕ) (left right : List ℤ) → Lent N left right → WindowHalf left × WindowHalf right
+lent-window N left right l =
+    (rw (l .rise) (record { small = rise-small N; low = rise-low N (l .whole) }), rw (l .fall) (record { small = fall-small N; low = fall-low N (l .whole) }))
+
 pub lent-halves : (N m : ℕ) (left right : List ℤ) → Lent N left right → m ≡ N / 2 → Halves m left right
 lent-halves N m left right l e =
     record {
       left-long = ap length (l .rise) ∙ rise-length N ∙ sym e;
       right-long = ap length (l .fall) ∙ fall-length N ∙ sym e;
-      left-small = rw (l .rise) (rise-small N);
-      right-small = rw (l .fall) (fall-small N);
+      rise = lent-window N left right l .0;
+      fall = lent-window N left right l .1;
     }

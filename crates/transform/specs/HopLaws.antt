@@ -1,14 +1,15 @@
 -- Laws of a windowed sample, and of the folded block by its two hops.
-use mathlib.Core.Path.{_≡_}
+use mathlib.Core.Path.{_≡_, refl, sym, ap, _∙_}
 use mathlib.Core.List.{List}
 use Prim.Native.Nat.{ℕ, _+_, _-_, _*_, _/_, _^_, _≤_, _<_}
 use native.Mathlib.Omega.{arith}
 use lib.Dec.{lit<}
-use lib.IntN.{ℤ, negℤ, natAbs, _-ℤ_, _*ℤ_}
-use Rattle.arithmetic.specs.Rounding.{rnd}
+use lib.IntN.{ℤ, pos, negsuc, negℤ, natAbs, _+ℤ_, _-ℤ_, _*ℤ_}
+use lib.Signed.{mag}
+use Rattle.arithmetic.specs.Rounding.{floor, rnd}
+use Rattle.arithmetic.specs.IntegerLaws.{ints, posints}
 use Rattle.arithmetic.specs.Lists.{at}
-use Rattle.arithmetic.specs.OrderLaws.{abs-mul-le}
-use Rattle.arithmetic.specs.RoundingLaws.{rnd-le}
+use Rattle.arithmetic.specs.RoundingLaws.{floor-floor, floor-shr, under, under-shr, under-times, rnd-half}
 use Rattle.transform.specs.Analysis.{y}
 use Rattle.transform.specs.FoldLaws.{folded, folded-low, folded-high}
 use Rattle.transform.specs.SizeLaws.{window-left, window-right}
@@ -17,9 +18,25 @@ use Rattle.transform.specs.SizeLaws.{window-left, window-right}
 unfoldable pub windowed : List ℤ → ℕ → List ℤ → ℕ → ℤ
 windowed half i x n = rnd (at half i *ℤ at x n) (2 ^ 18)
 
-pub windowed-size : (half : List ℤ) (i : ℕ) (x : List ℤ) (n : ℕ) → natAbs (at half i) ≤ 2 ^ 26 → natAbs (at x n) ≤ 32768 → natAbs (windowed half i x n) ≤ 2 ^ 23
-unfolding windowed
-windowed-size half i x n p q = rnd-le (at half i *ℤ at x n) (lit< tt) (abs-mul-le (at half i) (at x n) p q)
+-- as the code rounds it: with x beside 2^16 times the product, where a number below zero is seen
+pub windowed-beside : (w : ℕ) (x : ℤ) → natAbs x ≤ 2 ^ 15 → floor ((pos w *ℤ pos 65536 +ℤ pos 1) *ℤ x +ℤ pos (2 ^ 33)) (2 ^ 34) ≡ rnd (pos w *ℤ x) (2 ^ 18)
+windowed-beside w x h =
+    let z = pos w *ℤ x in
+    ap (λ (a : ℤ). floor a (2 ^ 34)) (apart w x)
+    ∙ sym (floor-floor x (z +ℤ pos (2 ^ 17)) {b = 65536} {m = 2 ^ 18} (lit< tt) (lit< tt) (lit< tt))
+    ∙ ap (λ (a : ℤ). floor (a +ℤ (z +ℤ pos (2 ^ 17))) (2 ^ 18)) (sym (floor-shr x 65536) ∙ under-shr x (less x h))
+    ∙ ap (λ (a : ℤ). floor a (2 ^ 18)) (swapped (under x) z (pos (2 ^ 17)))
+    ∙ rnd-half (2 ^ 17) (lit< tt) refl z (under x) (under-times w x)
+  where
+    apart : (w : ℕ) (x : ℤ) → (pos w *ℤ pos 65536 +ℤ pos 1) *ℤ x +ℤ pos (2 ^ 33) ≡ x +ℤ pos 65536 *ℤ (pos w *ℤ x +ℤ pos (2 ^ 17))
+    apart w x = simp posints (omega arith)
+
+    less : (x : ℤ) → natAbs x ≤ 2 ^ 15 → mag x < 65536
+    less (pos n) h = omega arith
+    less (negsuc n) h = omega arith
+
+    swapped : (s z b : ℤ) → s +ℤ (z +ℤ b) ≡ z +ℤ s +ℤ b
+    swapped s z b = simp ints (omega arith)
 
 -- M samples to a hop: the block is 2 M long, and M is even. The block, windowed and folded
 abbrev pub hops : ℕ → List ℤ → List ℤ → List ℤ → ℕ → ℤ

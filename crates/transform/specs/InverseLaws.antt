@@ -1,16 +1,17 @@
--- Laws of the inverse: each V is a number of the window times one of M sums, or its negative, rounded by itself.
+-- Laws of the inverse: each V is a number of the window times one of M rounded sums, or its negative.
 use mathlib.Core.Path.{_≡_, ap, ap₂, _∙_}
 use mathlib.Core.Bool.{cond}
 use mathlib.Core.List.{List}
 use Prim.Native.Nat.{ℕ, _+_, _-_, _*_, _/_, _^_, _≤_, _<_}
 use native.Mathlib.Omega.{arith}
 use native.Mathlib.Decide.{decLt}
-use lib.Dec.{ltb}
+use lib.Dec.{ltb, lit<}
 use lib.ListN.{length}
 use lib.IntN.{ℤ, pos, negℤ, _*ℤ_}
 use Rattle.arithmetic.specs.Rounding.{rnd}
 use Rattle.arithmetic.specs.Sums.{sum}
-use Rattle.arithmetic.specs.Lists.{at, table}
+use Rattle.arithmetic.specs.Lists.{at, table, Small}
+use Rattle.arithmetic.specs.RoundingLaws.{rnd-neg, rnd-le}
 use Rattle.arithmetic.specs.ListLaws.{table-ext, length-table, getD-table}
 use Rattle.arithmetic.specs.TestLaws.{cond-lt, cond-ge}
 use Rattle.cosine.specs.Kernels.{rising, falling, F}
@@ -24,6 +25,10 @@ use Rattle.tables.specs.HalfLaws.{riseList, fallList, rise-at, fall-at}
 -- the sum over k of X(k) × F(j,k)
 unfoldable pub folds : ℕ → List ℤ → ℕ → ℤ
 folds N X j = sum (N / 2) (λ k. at X k *ℤ F N j k)
+
+-- and rounded
+abbrev pub rounds : ℕ → List ℤ → ℕ → ℤ
+rounds N X j = rnd (folds N X j) (2 ^ 26)
 
 -- M samples to a hop, h half a hop: the four quarters of the block
 module _ (M : ℕ) (len : Part (2 * M)) (left right : ℕ → ℤ) (X : List ℤ) where
@@ -45,37 +50,44 @@ module _ (M : ℕ) (len : Part (2 * M)) (left right : ℕ → ℤ) (X : List ℤ
   back : (n : ℕ) → 3 * (2 * M / 4) - 1 - n ≡ 3 * h - 1 - n
   back n = rw quarter-is
 
-  pub V-second : (n : ℕ) → h ≤ n → n < M → V′ (2 * M) left right X n ≡ left n *ℤ rnd (negℤ (t (3 * h - 1 - n))) (2 ^ 26)
+  -- the turned sum rounds to the turned number
+  turned : (w : ℤ) (j : ℕ) → w *ℤ rnd (negℤ (t j)) (2 ^ 26) ≡ w *ℤ negℤ (rnd (t j) (2 ^ 26))
+  turned w j = ap (λ (z : ℤ). w *ℤ z) (rnd-neg (t j) (lit< tt))
+
+  pub V-second : (n : ℕ) → h ≤ n → n < M → V′ (2 * M) left right X n ≡ left n *ℤ negℤ (rnd (t (3 * h - 1 - n)) (2 ^ 26))
   unfolding V′ U folds
   V-second n p q =
       ap₂ (λ (a b : ℤ). a *ℤ rnd b (2 ^ 26)) (window-left (2 * M) left right n (omega arith))
       (rw (back n) at (inverse-middle (2 * M) len X n (omega (arith, len .four)) (omega (arith, len .four))))
+      ∙ turned (left n) (3 * h - 1 - n)
 
   over : (n : ℕ) → n - 2 * M / 2 ≡ n - M
   over n = omega arith
 
-  pub V-third : (n : ℕ) → M ≤ n → n < 3 * h → V′ (2 * M) left right X n ≡ right (n - M) *ℤ rnd (negℤ (t (3 * h - 1 - n))) (2 ^ 26)
+  pub V-third : (n : ℕ) → M ≤ n → n < 3 * h → V′ (2 * M) left right X n ≡ right (n - M) *ℤ negℤ (rnd (t (3 * h - 1 - n)) (2 ^ 26))
   unfolding V′ U folds
   V-third n p q =
       ap₂ (λ (a b : ℤ). a *ℤ rnd b (2 ^ 26)) (rw (over n) at (window-right (2 * M) left right n (omega arith)))
       (rw (back n) at (inverse-middle (2 * M) len X n (omega (arith, len .four)) (omega (arith, len .four))))
+      ∙ turned (right (n - M)) (3 * h - 1 - n)
 
-  pub V-fourth : (n : ℕ) → M ≤ n → 3 * h ≤ n → V′ (2 * M) left right X n ≡ right (n - M) *ℤ rnd (negℤ (t (n - 3 * h))) (2 ^ 26)
+  pub V-fourth : (n : ℕ) → M ≤ n → 3 * h ≤ n → V′ (2 * M) left right X n ≡ right (n - M) *ℤ negℤ (rnd (t (n - 3 * h)) (2 ^ 26))
   unfolding V′ U folds
   V-fourth n p q =
       let e : n - 3 * (2 * M / 4) ≡ n - 3 * h = omega (arith, len .four) in
       ap₂ (λ (a b : ℤ). a *ℤ rnd b (2 ^ 26)) (rw (over n) at (window-right (2 * M) left right n (omega arith)))
       (rw e at (inverse-last (2 * M) len X n (omega (arith, len .four))))
+      ∙ turned (right (n - M)) (n - 3 * h)
 
--- V at place n from the M sums t, as the code takes it
+-- V at place n from the M rounded sums t, as the code takes it
 unfoldable pub valueAt : List ℤ → List ℤ → List ℤ → ℕ → ℤ
 valueAt left right t n =
     let m = length t in
     let h = length t / 2 in
-    cond (ltb n h) (at left n *ℤ rnd (at t (h + n)) (2 ^ 26))
-    (cond (ltb n m) (at left n *ℤ rnd (negℤ (at t (3 * h - 1 - n))) (2 ^ 26))
-    (cond (ltb n (3 * h)) (at right (n - m) *ℤ rnd (negℤ (at t (3 * h - 1 - n))) (2 ^ 26))
-    (at right (n - m) *ℤ rnd (negℤ (at t (n - 3 * h))) (2 ^ 26))))
+    cond (ltb n h) (at left n *ℤ at t (h + n))
+    (cond (ltb n m) (at left n *ℤ negℤ (at t (3 * h - 1 - n)))
+    (cond (ltb n (3 * h)) (at right (n - m) *ℤ negℤ (at t (3 * h - 1 - n)))
+    (at right (n - m) *ℤ negℤ (at t (n - 3 * h)))))
 
 module _ (left right t : List ℤ) (n : ℕ) where
   abbrev m : ℕ
@@ -85,16 +97,16 @@ module _ (left right t : List ℤ) (n : ℕ) where
   q = length t / 2
 
   abbrev u1 : ℤ
-  u1 = at left n *ℤ rnd (at t (q + n)) (2 ^ 26)
+  u1 = at left n *ℤ at t (q + n)
 
   abbrev u2 : ℤ
-  u2 = at left n *ℤ rnd (negℤ (at t (3 * q - 1 - n))) (2 ^ 26)
+  u2 = at left n *ℤ negℤ (at t (3 * q - 1 - n))
 
   abbrev u3 : ℤ
-  u3 = at right (n - m) *ℤ rnd (negℤ (at t (3 * q - 1 - n))) (2 ^ 26)
+  u3 = at right (n - m) *ℤ negℤ (at t (3 * q - 1 - n))
 
   abbrev u4 : ℤ
-  u4 = at right (n - m) *ℤ rnd (negℤ (at t (n - 3 * q))) (2 ^ 26)
+  u4 = at right (n - m) *ℤ negℤ (at t (n - 3 * q))
 
   abbrev late : ℤ
   late = cond (ltb n (3 * q)) u3 u4
@@ -116,7 +128,7 @@ module _ (left right t : List ℤ) (n : ℕ) where
   value-fourth p r = cond-ge n q u1 (cond (ltb n m) u2 late) (omega arith) ∙ cond-ge n m u2 late p ∙ cond-ge n (3 * q) u3 u4 r
 
 -- and that is V
-pub value-is : (M : ℕ) → Part (2 * M) → (left right t X : List ℤ) → t ≡ table M (folds (2 * M) X) → (n : ℕ) → n < 2 * M →
+pub value-is : (M : ℕ) → Part (2 * M) → (left right t X : List ℤ) → t ≡ table M (rounds (2 * M) X) → (n : ℕ) → n < 2 * M →
     valueAt left right t n ≡ V′ (2 * M) (at left) (at right) X n
 value-is M len left right s X e n b = go (decLt n (M / 2)) (decLt n M) (decLt n (3 * (M / 2)))
   where
@@ -124,10 +136,10 @@ value-is M len left right s X e n b = go (decLt n (M / 2)) (decLt n M) (decLt n 
     even = let e : M ≡ 2 * (2 * M / 4) = omega (arith, len .four) in omega arith
 
     long : length s ≡ M
-    long = ap length e ∙ length-table (folds (2 * M) X) M
+    long = ap length e ∙ length-table (rounds (2 * M) X) M
 
-    entry : (j : ℕ) → j < M → at s j ≡ folds (2 * M) X j
-    entry j p = ap (λ (l : List ℤ). at l j) e ∙ getD-table (folds (2 * M) X) (pos 0) M j p
+    entry : (j : ℕ) → j < M → at s j ≡ rnd (folds (2 * M) X j) (2 ^ 26)
+    entry j p = ap (λ (l : List ℤ). at l j) e ∙ getD-table (rounds (2 * M) X) (pos 0) M j p
 
     go : Dec (n < M / 2) → Dec (n < M) → Dec (n < 3 * (M / 2)) → valueAt left right s n ≡ V′ (2 * M) (at left) (at right) X n
     go (yes p) d₂ d₃ = rw long at (value-first left right s n (rw long p)) ∙ rw (entry (M / 2 + n) (omega (arith, even)), V-first M len (at left) (at right) X n p)
@@ -154,11 +166,27 @@ V-ext N len l r l′ r′ X p q n b = go (decLt n (N / 2))
         rw (window-right N l r n v, window-right N l′ r′ n v, q (n - N / 2) (omega (arith, len .four)))
 
 -- ---- what the code has: V from the lists that are lent
+-- the sums, rounded in place
+pub rounded-step : (N : ℕ) (X t r : List ℤ) → t ≡ table (N / 2) (folds N X) → r ≡ table (length t) (λ j. rnd (at t j) (2 ^ 26)) → r ≡ table (N / 2) (rounds N X)
+rounded-step N X t r e h =
+    let m = N / 2 in
+    let long : length t ≡ m = ap length e ∙ length-table (folds N X) m in
+    h
+    ∙ ap (λ (k : ℕ). table k (λ j. rnd (at t j) (2 ^ 26))) long
+    ∙ table-ext m (λ j. rnd (at t j) (2 ^ 26)) (rounds N X) (λ j p. ap (λ (z : ℤ). rnd z (2 ^ 26)) (ap (λ (l : List ℤ). at l j) e ∙ getD-table (folds N X) (pos 0) m j p))
+
+pub rounded-small : (t r : List ℤ) → r ≡ table (length t) (λ j. rnd (at t j) (2 ^ 26)) → Small t (2 ^ 62) → Small r (2 ^ 36)
+rounded-small t r h s = record {
+  small = λ j p.
+      let q : j < length t = omega (arith, ap length h, length-table (λ j. rnd (at t j) (2 ^ 26)) (length t)) in
+      rw (ap (λ (l : List ℤ). at l j) h, getD-table (λ j. rnd (at t j) (2 ^ 26)) (pos 0) (length t) j q) (rnd-le (at t j) {b = 2 ^ 26} {n = 2 ^ 36} (lit< tt) (s .small j q));
+}
+
 from : (N : ℕ) → Length N → Part N
 from N t = record { four = omega (arith, t .twelve); parts = t .parts; some = t .some }
 
 module _ (N : ℕ) (t : Length N) (X : List ℤ) where
-  pub value-step : (left right s v : List ℤ) (n : ℕ) → n ≡ N → left ≡ riseList N → right ≡ fallList N → s ≡ table (N / 2) (folds N X) →
+  pub value-step : (left right s v : List ℤ) (n : ℕ) → n ≡ N → left ≡ riseList N → right ≡ fallList N → s ≡ table (N / 2) (rounds N X) →
       v ≡ table n (valueAt left right s) → v ≡ table N (V′ N (rising N) (falling N) X)
   value-step left right s v n e l r f h =
       let two : 2 * (N / 2) ≡ N = omega (arith, t .twelve) in

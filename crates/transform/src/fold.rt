@@ -2,27 +2,32 @@
 ghost use mathlib.Core.Path.{_≡_};
 ghost use Prim.Native.Nat.{_+_, _-_, _*_, _/_, _^_, _≤_, _<_};
 ghost use lib.ListN.{length};
-ghost use lib.IntN.{negℤ, natAbs, _-ℤ_, _*ℤ_};
+ghost use lib.IntN.{pos, negℤ, natAbs, _-ℤ_, _*ℤ_};
+ghost use lib.Signed.{_≤ℤ_};
+ghost use Rattle.arithmetic.specs.Rounding.{rnd};
 ghost use Rattle.arithmetic.specs.Lists.{table, Small};
 ghost use Rattle.transform.specs.HopLaws.{windowed, hops};
-ghost use Rattle.tables.specs.HalfLaws.{Halves};
+ghost use Rattle.tables.specs.HalfLaws.{WindowHalf, Halves};
 
-fn weighted(w: i32, x: i16) -> i64
-    ensures { λ r. ⌜ r ≡ w *ℤ x ⌝ }
-    ensures { λ r. ⌜ natAbs x ≤ 2 ^ 15 ⌝ }
+// rnd(w x / 2^18). To 2^16 times the product x itself is added, which is less: so a half goes up for x above zero, and down below.
+fn weighted(w: i32, x: i16) -> i32
+    requires { ⌜ pos 0 ≤ℤ w ⌝ }
+    requires { ⌜ natAbs w ≤ 2 ^ 26 ⌝ }
+    ensures { λ r. ⌜ r ≡ rnd (w *ℤ x) (2 ^ 18) ⌝ }
+    ensures { λ r. ⌜ natAbs r ≤ 2 ^ 23 ⌝ }
 {
-    w as i64 * x as i64
+    ((w as i64 * 65536 + 1) * x as i64 + 8589934592 >> 34) as i32
 }
 
 // Sample n, windowed by entry i of a half of the joint.
 pub fn windowed(half: &[i32], i: usize, x: &[i16], n: usize) -> i32
-    requires { ⌜ Small (now half) (2 ^ 26) ⌝ }
+    requires { ⌜ WindowHalf (now half) ⌝ }
     requires { ⌜ i < length (now half) ⌝ }
     requires { ⌜ n < length (now x) ⌝ }
     ensures { λ r. ⌜ r ≡ windowed (now (half .entry)) i (now (x .entry)) n ⌝ }
     ensures { λ r. ⌜ natAbs r ≤ 2 ^ 23 ⌝ }
 {
-    arithmetic::rnd_shift(weighted(half[i], x[n]), 18) as i32
+    weighted(half[i], x[n])
 }
 
 // The sign of the mirrored half of the first hop.
@@ -30,7 +35,7 @@ const MIRRORED: i32 = -1;
 
 // Two places of the first hop: a sample less its mirrored one.
 fn difference(left: &[i32], x: &[i16], a: usize, b: usize) -> i32
-    requires { ⌜ Small (now left) (2 ^ 26) ⌝ }
+    requires { ⌜ WindowHalf (now left) ⌝ }
     requires { ⌜ length (now left) ≤ length (now x) ⌝ }
     requires { ⌜ a < length (now left) ⌝ }
     requires { ⌜ b < length (now left) ⌝ }
@@ -42,7 +47,7 @@ fn difference(left: &[i32], x: &[i16], a: usize, b: usize) -> i32
 
 // Two places of the second hop, which starts at m: a sample and its mirrored one, both with the sign changed.
 fn negated_sum(right: &[i32], x: &[i16], m: usize, a: usize, b: usize) -> i32
-    requires { ⌜ Small (now right) (2 ^ 26) ⌝ }
+    requires { ⌜ WindowHalf (now right) ⌝ }
     requires { ⌜ m + length (now right) ≤ length (now x) ⌝ }
     requires { ⌜ a < length (now right) ⌝ }
     requires { ⌜ b < length (now right) ⌝ }

@@ -37,12 +37,13 @@ pub fn direct_block(n: usize, x: &[i16], z: &[i32], t: &[i64], out: &mut [i32])
     sums::spectrum(t, out);
 }
 
-// V(0) .. V(N-1) of a block's coefficients x, t being their sums. The length's window is lent.
-pub fn inverse_block(n: usize, left: &[i32], right: &[i32], x: &[i32], t: &[i64], v: &mut [i64])
+// V(0) .. V(N-1) of a block's coefficients x, t being their sums, which are rounded there. The length's window is lent.
+pub fn inverse_block(n: usize, left: &[i32], right: &[i32], x: &[i32], t: &mut [i64], v: &mut [i64])
     requires { ⌜ Lent n (now left) (now right) ⌝ }
     requires { ⌜ Sums n (now x) (now t) ⌝ }
     requires { ⌜ length (now v) ≡ n ⌝ }
     ensures { λ _. ⌜ now (v .exit) ≡ table n (V′ n (rising n) (falling n) (now (x .entry))) ⌝ }
 {
+    unfold::round(t);
     unfold::values(left, right, t, v);
 }

@@ -4,34 +4,44 @@ ghost use Prim.Native.Nat.{_+_, _*_, _/_, _^_, _≤_, _<_};
 ghost use lib.ListN.{length};
 ghost use lib.IntN.{negℤ, natAbs, _*ℤ_};
 ghost use Rattle.arithmetic.specs.Rounding.{rnd};
-ghost use Rattle.arithmetic.specs.Lists.{table, Small};
+ghost use Rattle.arithmetic.specs.Lists.{at, table, Small};
 ghost use Rattle.transform.specs.InverseLaws.{valueAt};
 ghost use Rattle.tables.specs.HalfLaws.{Halves};
 
-// A number of the window times a sum, rounded.
-fn weighted(w: i32, s: i64) -> i64
-    requires { ⌜ natAbs w ≤ 2 ^ 26 ⌝ }
-    requires { ⌜ natAbs s ≤ 2 ^ 62 ⌝ }
-    ensures { λ r. ⌜ r ≡ w *ℤ rnd s (2 ^ 26) ⌝ }
+// The sums, rounded in place: U at M places. Each serves two places, since a sum with its sign changed rounds to the same with its sign changed.
+pub fn round(t: &mut [i64])
+    requires { ⌜ Small (now t) (2 ^ 62) ⌝ }
+    ensures { λ _. ⌜ now (t .exit) ≡ table (length (now (t .entry))) (λ j. rnd (at (now (t .entry)) j) (2 ^ 26)) ⌝ }
 {
-    w as i64 * arithmetic::rnd_shift(s, 26)
+    for j in 0..t.len() {
+        t[j] = arithmetic::rnd_shift(t[j], 26);
+    }
 }
 
-// The same of the sum with its sign changed, which is rounded by itself: halves go up.
-fn weighted_negated(w: i32, s: i64) -> i64
+// A number of the window times a rounded sum.
+fn weighted(w: i32, u: i64) -> i64
     requires { ⌜ natAbs w ≤ 2 ^ 26 ⌝ }
-    requires { ⌜ natAbs s ≤ 2 ^ 62 ⌝ }
-    ensures { λ r. ⌜ r ≡ w *ℤ rnd (negℤ s) (2 ^ 26) ⌝ }
+    requires { ⌜ natAbs u ≤ 2 ^ 36 ⌝ }
+    ensures { λ r. ⌜ r ≡ w *ℤ u ⌝ }
 {
-    weighted(w, -s)
+    w as i64 * u
 }
 
-// V at place n.
+// The same with the sign changed.
+fn weighted_negated(w: i32, u: i64) -> i64
+    requires { ⌜ natAbs w ≤ 2 ^ 26 ⌝ }
+    requires { ⌜ natAbs u ≤ 2 ^ 36 ⌝ }
+    ensures { λ r. ⌜ r ≡ w *ℤ negℤ u ⌝ }
+{
+    weighted(w, -u)
+}
+
+// V at place n, from the rounded sums.
 fn value(left: &[i32], right: &[i32], t: &[i64], n: usize) -> i64
     requires { ⌜ Halves (length (now t)) (now left) (now right) ⌝ }
     requires { ⌜ 2 * (length (now t) / 2) ≡ length (now t) ⌝ }
     requires { ⌜ n < 2 * length (now t) ⌝ }
-    requires { ⌜ Small (now t) (2 ^ 62) ⌝ }
+    requires { ⌜ Small (now t) (2 ^ 36) ⌝ }
     ensures { λ r. ⌜ r ≡ valueAt (now (left .entry)) (now (right .entry)) (now (t .entry)) n ⌝ }
 {
     let m = t.len();
@@ -52,7 +62,7 @@ pub fn values(left: &[i32], right: &[i32], t: &[i64], v: &mut [i64])
     requires { ⌜ Halves (length (now t)) (now left) (now right) ⌝ }
     requires { ⌜ length (now v) ≡ 2 * length (now t) ⌝ }
     requires { ⌜ 2 * (length (now t) / 2) ≡ length (now t) ⌝ }
-    requires { ⌜ Small (now t) (2 ^ 62) ⌝ }
+    requires { ⌜ Small (now t) (2 ^ 36) ⌝ }
     ensures { λ _. ⌜ now (v .exit) ≡ table (length (now (v .entry))) (valueAt (now (left .entry)) (now (right .entry)) (now (t .entry))) ⌝ }
 {
     for n in 0..v.len() {

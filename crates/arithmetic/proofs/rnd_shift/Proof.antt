@@ -5,13 +5,13 @@ use native.Mathlib.Nat.{pow-succ'}
 use native.Mathlib.Omega.{arith}
 use borrow.Author.Needs.{needs}
 use lib.IntN.{ℤ, pos, _+ℤ_}
-use lib.Pow.{pow-mono}
+use lib.Pow.{pow-mono, pow-pos}
 use lib.Signed.{shrZ}
 use mir.Syntax.{w64}
-use mir.Val.{SFits, toZ}
+use mir.Val.{SFits, toZ, ofZ}
 use mir.Facts.{toZ-ofZ, toZ-pos}
 use Rattle.arithmetic.specs.OrderLaws.{sfits-abs, sfits-shr, abs-add}
-use Rattle.arithmetic.specs.RoundingLaws.{floor-shr, rnd-half}
+use Rattle.arithmetic.specs.RoundingLaws.{floor-shr, under, under-abs, under-self, rnd-half}
 use Rattle.arithmetic.proofs.rnd_shift.Statement.{statement}
 use Rattle.arithmetic.proofs.rnd_shift.Tie as tie
 
@@ -39,8 +39,28 @@ module _ (c : tie.Start) where
       let e : 1 * half % 2 ^ 64 ≡ half = omega (arith, half-le) in
       rw e (toZ-pos w64 (omega (arith, half-le)))
 
-  sum-fits : SFits w64 (a +ℤ pos half)
-  sum-fits = sfits-abs (a +ℤ pos half) (omega (arith, abs-add a (pos half), half-le, c .pre .2))
+  -- below zero 1 less, and the sum that is shifted
+  abbrev tilted : ℤ
+  tilted = a +ℤ under a
+
+  tilted-fits : SFits w64 tilted
+  tilted-fits = sfits-abs tilted (omega (arith, abs-add a (under a), under-abs a, c .pre .2))
+
+  abbrev z : ℤ
+  z = tilted +ℤ pos half
+
+  sum-fits : SFits w64 z
+  sum-fits = sfits-abs z (omega (arith, abs-add tilted (pos half), abs-add a (under a), under-abs a, half-le, c .pre .2))
+
+tilt-requires : tie.Need-tilt-requires
+tilt-requires c κs = search needs
+
+-- what `tilt` gave, as the machine has it
+tilt-is : (c : tie.After-tilt) → toZ w64 (ofZ w64 (c .tilt .result)) ≡ under (a (c .before))
+tilt-is c = toZ-ofZ {w = w64} {z = c .tilt .result} (record { sfits = c .tilt .ok }) ∙ c .tilt .ensures ∙ ap under (toZ-ofZ (c .before .fits .a))
+
+add-shifted : tie.Need-add-shifted
+add-shifted c = rw (tilt-is c, toZ-ofZ (c .before .fits .a)) (tilted-fits (c .before))
 
 sub-shifted : tie.Need-sub-shifted
 sub-shifted c = search needs
@@ -51,20 +71,22 @@ cast-shifted c = search needs
 shl-shifted : tie.Need-shl-shifted
 shl-shifted c = search needs
 
-add-shifted : tie.Need-add-shifted
-add-shifted c = rw (toZ-ofZ (c .fits .a), half-is c) (sum-fits c)
+add-shifted-2 : tie.Need-add-shifted-2
+add-shifted-2 c = let s = c .before in rw (tilt-is c, toZ-ofZ (s .fits .a), toZ-ofZ (tilted-fits s), half-is s) (sum-fits s)
 
 shifted-requires : tie.Need-shifted-requires
 shifted-requires c κs =
-    let z = a c +ℤ pos (half c) in
-    (omega (arith, c .pre .1), rw (toZ-ofZ (c .fits .a), half-is c, toZ-ofZ (sum-fits c)) (sfits-shr z (2 ^ k c) (sum-fits c)))
+    let s = c .before in
+    (omega (arith, s .pre .1), rw (tilt-is c, toZ-ofZ (s .fits .a), toZ-ofZ (tilted-fits s), half-is s, toZ-ofZ (sum-fits s)) (sfits-shr (z s) (2 ^ k s) (sum-fits s)))
 
 returns : tie.Need-returns
 returns c =
-    let s = c .before in
-    let z = a s +ℤ pos (half s) in
-    let e : c .shifted .result ≡ shrZ z (2 ^ k s) = rw (toZ-ofZ (s .fits .a), half-is s, toZ-ofZ (sum-fits s)) at (c .shifted .ensures) in
-    rw e (toZ-ofZ (sfits-shr z (2 ^ k s) (sum-fits s)) ∙ floor-shr z (2 ^ k s) ∙ rnd-half (a s) (half s) (double s))
+    let t = c .before in
+    let s = t .before in
+    let e : c .shifted .result ≡ shrZ (z s) (2 ^ k s) =
+    rw (tilt-is t, toZ-ofZ (s .fits .a), toZ-ofZ (tilted-fits s), half-is s, toZ-ofZ (sum-fits s)) at (c .shifted .ensures)
+    in
+    rw e (toZ-ofZ (sfits-shr (z s) (2 ^ k s) (sum-fits s)) ∙ floor-shr (z s) (2 ^ k s) ∙ rnd-half (half s) (pow-pos (k s)) (double s) (a s) (under (a s)) (under-self (a s)))
 
 pub rnd-shift-spec : {M : Type 1} → statement M
-rnd-shift-spec = tie.close (tie.spec sub-shifted cast-shifted shl-shifted add-shifted shifted-requires returns)
+rnd-shift-spec = tie.close (tie.spec tilt-requires add-shifted sub-shifted cast-shifted shl-shifted add-shifted-2 shifted-requires returns)

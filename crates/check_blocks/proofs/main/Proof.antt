@@ -57,6 +57,9 @@ untabled-requires-8 c κs = search needs
 untabled-requires-9 : tie.Need-untabled-requires-9
 untabled-requires-9 c κs = search needs
 
+halves-requires : tie.Need-halves-requires
+halves-requires c κs = search needs
+
 returns : tie.Need-returns
 returns c = search needs
 
@@ -79,4 +82,5 @@ main-spec =
     untabled-requires-7
     untabled-requires-8
     untabled-requires-9
+    halves-requires
     returns)

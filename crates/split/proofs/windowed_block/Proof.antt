@@ -2,9 +2,8 @@
 use mathlib.Core.Path.{sym, ap, _∙_}
 use native.Mathlib.Omega.{arith}
 use lib.ListN.{length}
-use Rattle.tables.specs.HalfLaws.{rise-length, fall-length}
+use Rattle.tables.specs.HalfLaws.{rise-length, fall-length, lent-window}
 use Rattle.cosine.specs.LengthLaws.{third-part}
-use Rattle.split.specs.WindowLaws.{lent-weights}
 use Rattle.split.specs.ShortStepLaws.{windowed-step}
 use Rattle.split.specs.PartLaws.{windowed-length}
 use borrow.Author.Needs.{needs}
@@ -17,7 +16,7 @@ windowed-block-requires c κs =
     let n = s .args .n in
     let q = s .pre in
     let l = rise-length n in
-    let w = lent-weights n (s .args .left .now) (s .args .right .now) (q .0) in (
+    let w = lent-window n (s .args .left .now) (s .args .right .now) (q .0) in (
       ap length (q .0 .rise) ∙ l ∙ sym (fall-length n) ∙ sym (ap length (q .0 .fall)),
       (q .1 .1 .0 ∙ omega (arith, q .0 .whole .twelve, ap length (q .0 .rise), l), (q .1 .1 .1 ∙ sym (q .1 .1 .0), w)),
     )

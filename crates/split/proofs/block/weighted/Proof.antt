@@ -11,7 +11,7 @@ use mir.Val.{SFits, toZ, ofZ}
 use mir.Facts.{toZ-ofZ, toZ-pos}
 use Rattle.arithmetic.specs.Rounding.{floor, rnd}
 use Rattle.arithmetic.specs.OrderLaws.{sfits-abs, abs-sfits, abs-add, abs-mul-le}
-use Rattle.arithmetic.specs.RoundingLaws.{floor-shr, floor-abs, rnd-le}
+use Rattle.arithmetic.specs.RoundingLaws.{floor-shr, floor-abs, under, under-abs, rnd-le}
 use Rattle.split.specs.WindowLaws.{windowed-parts}
 use Rattle.split.proofs.block.weighted.Statement.{statement}
 use Rattle.split.proofs.block.weighted.Tie as tie
@@ -26,16 +26,23 @@ module _ (c : tie.Start) where
   abbrev hi : ℤ
   hi = x *ℤ pos (u / 8192)
 
+  abbrev low : ℤ
+  low = x *ℤ pos (u % 8192)
+
+  -- one less below zero
   abbrev lo : ℤ
-  lo = x *ℤ pos (u % 8192)
+  lo = low +ℤ under x
 
   hi-abs : natAbs hi ≤ 2 ^ 15 * 2 ^ 13
   hi-abs = abs-mul-le x (pos (u / 8192)) {B = 2 ^ 13} (abs-sfits (c .fits .x)) (omega (arith, c .pre .1))
 
-  lo-abs : natAbs lo ≤ 2 ^ 15 * 2 ^ 13
-  lo-abs = abs-mul-le x (pos (u % 8192)) {B = 2 ^ 13} (abs-sfits (c .fits .x)) (omega arith)
+  low-abs : natAbs low ≤ 2 ^ 15 * 2 ^ 13
+  low-abs = abs-mul-le x (pos (u % 8192)) {B = 2 ^ 13} (abs-sfits (c .fits .x)) (omega arith)
 
-  sum-abs : natAbs (hi +ℤ floor lo 8192) ≤ 2 ^ 29
+  lo-abs : natAbs lo ≤ 2 ^ 15 * 2 ^ 13 + 1
+  lo-abs = omega (arith, abs-add low (under x), low-abs, under-abs x)
+
+  sum-abs : natAbs (hi +ℤ floor lo 8192) ≤ 2 ^ 29 + 1
   sum-abs = omega (arith, abs-add hi (floor lo 8192), floor-abs lo 8192, hi-abs, lo-abs)
 
   total-abs : natAbs (hi +ℤ floor lo 8192 +ℤ pos 16) ≤ 2 ^ 30
@@ -46,6 +53,9 @@ module _ (c : tie.Start) where
 
   hi-fits : SFits w32 hi
   hi-fits = sfits-abs hi (omega (arith, hi-abs))
+
+  low-fits : SFits w32 low
+  low-fits = sfits-abs low (omega (arith, low-abs))
 
   lo-fits : SFits w32 lo
   lo-fits = sfits-abs lo (omega (arith, lo-abs))
@@ -93,33 +103,62 @@ mul-result : tie.Need-mul-result
 mul-result c = rw (x-is c, u-is c, hi-part c) (hi-fits c)
 
 mul-result-2 : tie.Need-mul-result-2
-mul-result-2 c = rw (x-is c, u-is c, lo-part c) (lo-fits c)
+mul-result-2 c = rw (x-is c, u-is c, lo-part c) (low-fits c)
+
+tilt-requires : tie.Need-tilt-requires
+tilt-requires c κs = search needs
+
+-- what `tilt` gave, as the machine has it
+tilt-is : (c : tie.After-tilt) → toZ w32 (ofZ w32 (c .tilt .result)) ≡ under (x (c .before))
+tilt-is c = toZ-ofZ {w = w32} {z = c .tilt .result} (record { sfits = c .tilt .ok }) ∙ c .tilt .ensures ∙ ap under (toZ-ofZ (c .before .fits .x))
 
 add-result : tie.Need-add-result
-add-result c = rw (x-is c, u-is c, hi-part c, lo-part c, toZ-ofZ (hi-fits c), toZ-ofZ (lo-fits c), floor-shr (lo c) 8192, toZ-ofZ (floor-fits c)) (sum-fits c)
+add-result c = let s = c .before in rw (tilt-is c, x-is s, u-is s, lo-part s, toZ-ofZ (low-fits s)) (lo-fits s)
 
 add-result-2 : tie.Need-add-result-2
 add-result-2 c =
-    rw (x-is c, u-is c, hi-part c, lo-part c, toZ-ofZ (hi-fits c), toZ-ofZ (lo-fits c), floor-shr (lo c) 8192, toZ-ofZ (floor-fits c), toZ-ofZ (sum-fits c)) (total-fits c)
+    let s = c .before in
+    rw (tilt-is c, x-is s, u-is s, hi-part s, lo-part s, toZ-ofZ (hi-fits s), toZ-ofZ (low-fits s), toZ-ofZ (lo-fits s), floor-shr (lo s) 8192, toZ-ofZ (floor-fits s)) (sum-fits s)
+
+add-result-3 : tie.Need-add-result-3
+add-result-3 c =
+    let s = c .before in
+    rw (
+      tilt-is c,
+      x-is s,
+      u-is s,
+      hi-part s,
+      lo-part s,
+      toZ-ofZ (hi-fits s),
+      toZ-ofZ (low-fits s),
+      toZ-ofZ (lo-fits s),
+      floor-shr (lo s) 8192,
+      toZ-ofZ (floor-fits s),
+      toZ-ofZ (sum-fits s),
+    )
+    (total-fits s)
 
 returns : tie.Need-returns
-returns c =
-    let t = hi c +ℤ floor (lo c) 8192 +ℤ pos 16 in
+returns t =
+    let c = t .before in
+    let z = hi c +ℤ floor (lo c) 8192 +ℤ pos 16 in
     let small : natAbs (rnd (c .args .w *ℤ x c) (2 ^ 18)) ≤ 2 ^ 23 =
     rnd-le (c .args .w *ℤ x c) {b = 2 ^ 18} {n = 2 ^ 23} (lit< tt) (abs-mul-le (c .args .w) (x c) (c .pre .1) (abs-sfits (c .fits .x))) in
     let fits : SFits w32 (rnd (c .args .w *ℤ x c) (2 ^ 18)) = sfits-abs (rnd (c .args .w *ℤ x c) (2 ^ 18)) (omega arith) in
     rw (
+      tilt-is t,
       x-is c,
       u-is c,
       hi-part c,
       lo-part c,
       toZ-ofZ (hi-fits c),
+      toZ-ofZ (low-fits c),
       toZ-ofZ (lo-fits c),
       floor-shr (lo c) 8192,
       toZ-ofZ (floor-fits c),
       toZ-ofZ (sum-fits c),
       toZ-ofZ (total-fits c),
-      floor-shr t 32,
+      floor-shr z 32,
       is c,
     )
     (toZ-ofZ fits, rw (toZ-ofZ fits) small)
@@ -134,6 +173,8 @@ weighted-spec =
     cast-lo
     mul-result
     mul-result-2
+    tilt-requires
     add-result
     add-result-2
+    add-result-3
     returns)

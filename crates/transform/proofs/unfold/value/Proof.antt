@@ -28,7 +28,7 @@ shared-slice-copy-out-weighted-2 c = search needs
 weighted-requires : tie.Need-weighted-requires
 weighted-requires c κs =
     let s = c .before .before .before in (
-      rw (toZ-ofZ {w = w32} (record { sfits = c .before .weighted-arg .given })) (s .pre .0 .left-small .small (s .args .n) (omega (arith, s .pre .0 .left-long, s .pre .0 .right-long))),
+      rw (toZ-ofZ {w = w32} (record { sfits = c .before .weighted-arg .given })) (s .pre .0 .rise .small .small (s .args .n) (omega (arith, s .pre .0 .left-long, s .pre .0 .right-long))),
       rw (toZ-ofZ {w = w64} (record { sfits = c .weighted-arg2 .given })) (s .pre .1 .1 .1 .small (length (s .args .t .now) / 2 + s .args .n) (omega (arith, s .pre .0 .left-long, s .pre .0 .right-long))),
     )
 
@@ -64,7 +64,7 @@ shared-slice-copy-out-weighted-negated-2 c = search needs
 weighted-negated-requires : tie.Need-weighted-negated-requires
 weighted-negated-requires c κs =
     let s = c .before .before .before .before in (
-      rw (toZ-ofZ {w = w32} (record { sfits = c .before .weighted-negated-arg .given })) (s .pre .0 .left-small .small (s .args .n) (omega (arith, s .pre .0 .left-long, s .pre .0 .right-long))),
+      rw (toZ-ofZ {w = w32} (record { sfits = c .before .weighted-negated-arg .given })) (s .pre .0 .rise .small .small (s .args .n) (omega (arith, s .pre .0 .left-long, s .pre .0 .right-long))),
       rw (toZ-ofZ {w = w64} (record { sfits = c .weighted-negated-arg2 .given })) (s .pre .1 .1 .1 .small (3 * (length (s .args .t .now) / 2) - 1 - s .args .n) (omega (arith, s .pre .0 .left-long, s .pre .0 .right-long))),
     )
 
@@ -103,7 +103,7 @@ shared-slice-copy-out-weighted-negated-4 c = search needs
 weighted-negated-requires-2 : tie.Need-weighted-negated-requires-2
 weighted-negated-requires-2 c κs =
     let s = c .before .before .before .before .before in (
-      rw (toZ-ofZ {w = w32} (record { sfits = c .before .weighted-negated-arg3 .given })) (s .pre .0 .right-small .small (s .args .n - length (s .args .t .now)) (omega (arith, s .pre .0 .left-long, s .pre .0 .right-long))),
+      rw (toZ-ofZ {w = w32} (record { sfits = c .before .weighted-negated-arg3 .given })) (s .pre .0 .fall .small .small (s .args .n - length (s .args .t .now)) (omega (arith, s .pre .0 .left-long, s .pre .0 .right-long))),
       rw (toZ-ofZ {w = w64} (record { sfits = c .weighted-negated-arg4 .given })) (s .pre .1 .1 .1 .small (3 * (length (s .args .t .now) / 2) - 1 - s .args .n) (omega (arith, s .pre .0 .left-long, s .pre .0 .right-long))),
     )
 
@@ -136,7 +136,7 @@ shared-slice-copy-out-weighted-negated-6 c = search needs
 weighted-negated-requires-3 : tie.Need-weighted-negated-requires-3
 weighted-negated-requires-3 c κs =
     let s = c .before .before .before .before .before in (
-      rw (toZ-ofZ {w = w32} (record { sfits = c .before .weighted-negated-arg5 .given })) (s .pre .0 .right-small .small (s .args .n - length (s .args .t .now)) (omega (arith, s .pre .0 .left-long, s .pre .0 .right-long))),
+      rw (toZ-ofZ {w = w32} (record { sfits = c .before .weighted-negated-arg5 .given })) (s .pre .0 .fall .small .small (s .args .n - length (s .args .t .now)) (omega (arith, s .pre .0 .left-long, s .pre .0 .right-long))),
       rw (toZ-ofZ {w = w64} (record { sfits = c .weighted-negated-arg6 .given })) (s .pre .1 .1 .1 .small (s .args .n - 3 * (length (s .args .t .now) / 2)) (omega (arith, s .pre .0 .left-long, s .pre .0 .right-long))),
     )
 

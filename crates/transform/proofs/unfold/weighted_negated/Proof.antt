@@ -1,4 +1,4 @@
--- `weighted_negated` meets its contract: the sum with its sign changed is as small.
+-- `weighted_negated` meets its contract: the number with its sign changed is as small.
 use mathlib.Core.Path.{_≡_, _∙_}
 use native.Mathlib.Omega.{arith}
 use borrow.Author.Needs.{needs}
@@ -10,17 +10,17 @@ use Rattle.arithmetic.specs.OrderLaws.{sfits-abs, abs-neg}
 use Rattle.transform.proofs.unfold.weighted_negated.Statement.{statement}
 use Rattle.transform.proofs.unfold.weighted_negated.Tie as tie
 
-negated : (c : tie.Start) → pos 0 -ℤ toZ w64 (ofZ w64 (c .args .s)) ≡ negℤ (c .args .s)
-negated c = rw (toZ-ofZ (c .fits .s)) (+ℤ-idl (negℤ (c .args .s)))
+negated : (c : tie.Start) → pos 0 -ℤ toZ w64 (ofZ w64 (c .args .u)) ≡ negℤ (c .args .u)
+negated c = rw (toZ-ofZ (c .fits .u)) (+ℤ-idl (negℤ (c .args .u)))
 
-negated-fits : (c : tie.Start) → SFits w64 (negℤ (c .args .s))
-negated-fits c = sfits-abs (negℤ (c .args .s)) (rw (abs-neg (c .args .s)) (omega (arith, c .pre .1)))
+negated-fits : (c : tie.Start) → SFits w64 (negℤ (c .args .u))
+negated-fits c = sfits-abs (negℤ (c .args .u)) (rw (abs-neg (c .args .u)) (omega (arith, c .pre .1)))
 
 sub-weighted : tie.Need-sub-weighted
 sub-weighted c = rw (negated c) (negated-fits c)
 
 weighted-requires : tie.Need-weighted-requires
-weighted-requires c κs = (search needs, rw (negated c, toZ-ofZ (negated-fits c), abs-neg (c .args .s)) (c .pre .1))
+weighted-requires c κs = (search needs, rw (negated c, toZ-ofZ (negated-fits c), abs-neg (c .args .u)) (c .pre .1))
 
 returns : tie.Need-returns
 returns c = toZ-ofZ {w = w64} {z = c .weighted .result} (record { sfits = c .weighted .ok }) ∙ c .weighted .ensures ∙ rw (toZ-ofZ (c .before .fits .w), negated (c .before), toZ-ofZ (negated-fits (c .before)))
