@@ -291,11 +291,6 @@ by-blocks = record {
 pub back : Back 12 3 7 routes recording (playedOut 12 3 whole hops-room)
 back = back-block-by-block 12 3 7 routes recording whole hops-room recorded by-blocks played .0
 
--- ---- and a single hop, analysed by one call
-knock-played : playedCode 12 1 knock-whole room ≡ 0
-unfolding answers
-knock-played = refl
-
 -- ---- at 108 and 216 the short route is refused with 1, whatever the buffers' lengths are, and the direct one is taken
 pub short-at-108 : (x out : List ℤ) → analyseCode Short 108 x out ≡ 1
 unfolding answers
@@ -349,6 +344,11 @@ short-turned-taken = refl
 
 pub short-turned : analyseOut Short 12 (opposite twelve-samples) room ≡ opposite (analyseOut Short 12 twelve-samples room)
 short-turned = sign-rule .analysed Short 12 twelve-samples room room short-taken short-turned-taken
+
+-- ---- a single hop at N = 12, analysed by one call
+knock-played : playedCode 12 1 knock-whole room ≡ 0
+unfolding answers
+knock-played = refl
 
 knock-analysed : recordedCode Direct 12 1 knock (room ++ room) ≡ 0
 unfolding answers

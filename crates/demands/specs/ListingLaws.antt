@@ -8,11 +8,10 @@ use native.Mathlib.Decide.{decLt}
 use lib.Dec.{T, eqb}
 use lib.ListN.{length, getD, List·getD-append, length-append}
 use lib.Seq.{getD-append-add, ext-getD}
-use lib.IntN.{ℤ, pos, natAbs, _-ℤ_}
+use lib.IntN.{ℤ, pos}
 use borrow.Author.Tests.{eq-eqb}
 use Rattle.arithmetic.specs.Lists.{at, every}
 use Rattle.arithmetic.specs.TestLaws.{both-left, both-right}
-use Rattle.arithmetic.specs.IntegerLaws.{ints}
 use Rattle.arithmetic.specs.Rounding.{Sample}
 use Rattle.cosine.specs.Kernels.{tabled}
 use Rattle.analysis.specs.declared.Route.{Route}
@@ -38,6 +37,7 @@ use Rattle.listing.specs.SizeLaws.{taken-hops}
 use Rattle.listing.specs.Examples.{document, document-taken, document-table}
 use Rattle.demands.specs.Steps.{Recording, Brought}
 use Rattle.demands.specs.RecordingLaws.{back-same}
+use Rattle.demands.specs.UnchangedLaws.{unchanged}
 
 recording-sample : (M : ℕ) (hs : List (List ℤ)) → Hops M hs → (i : ℕ) → i < length (recording hs) → Sample (at (recording hs) i)
 unfolding recording
@@ -50,9 +50,6 @@ recording-sample M (h ∷ hs) a i p = go (decLt i (length h)) (recording-sample 
         let k = i - length h in
         let e : i ≡ length h + k = omega arith in
         rw (ap (at (h ++ recording hs)) e ∙ getD-append-add h (recording hs) k (pos 0)) (ih k (omega (arith, length-append h (recording hs))))
-
-unchanged : (z : ℤ) → natAbs (z -ℤ z) ≤ 0
-unchanged z = let e : z -ℤ z ≡ pos 0 = simp ints (omega arith) in rw e (omega arith)
 
 -- ---- the bank on hops of M samples
 module _ (N : ℕ) (t : T (tabled N)) (hs : List (List ℤ)) (a : Hops (N / 2) hs) where

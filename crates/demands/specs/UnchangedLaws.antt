@@ -30,6 +30,10 @@ use Rattle.demands.specs.RecordingLaws.{hop-of, by-direct, windowed, win
 use Rattle.demands.specs.AnswerLaws.{demand-1}
 use Rattle.demands.specs.BackLaws.{back-by-one-call}
 
+-- a coefficient that is handed on as it was
+pub unchanged : (z : ℤ) → natAbs (z -ℤ z) ≤ 0
+unchanged z = let e : z -ℤ z ≡ pos 0 = simp ints (omega arith) in rw e (omega arith)
+
 module _ (N H : ℕ) (x buffer : List ℤ) (samples : (i : ℕ) → i < length x → Sample (at x i)) (taken : recordedCode Direct N H x buffer ≡ 0) where
   -- the coefficients that the analysis left
   abbrev X : List ℤ
@@ -66,15 +70,12 @@ module _ (N H : ℕ) (x buffer : List ℤ) (samples : (i : ℕ) → i < length x
           rw (ap (at X) (sym (l .is)) ∙ ap (λ (c : List ℤ). at c (b * (N / 2) + k)) (sym are) ∙ e ∙ by-direct N (block N x b) k (l .less))
           (X-taken N (windowed N (block N x b)) (windowed-size N tab H x rec b) (length-of N tab) k)
 
-  same : (z : ℤ) → natAbs (z -ℤ z) ≤ 0
-  same z = let e : z -ℤ z ≡ pos 0 = simp ints (omega arith) in rw e (omega arith)
-
   pub unchanged-taken : (out : List ℤ) → length out ≡ H * (N / 2) → playedCode N H X out ≡ 0
   unchanged-taken out room = demand-1 .played N H X out .taken tab (record { some = rec .hops; most = counted-most H (facts .hops) }) long room range
 
   pub unchanged-back : (out : List ℤ) → length out ≡ H * (N / 2) → playedOut N H X out ≡ x
   unchanged-back out room =
       let played = unchanged-taken out room in
-      let given : ByOneCall N H 0 Direct x X = record { buffer = buffer; taken = taken; near = λ i p. same (at X i) } in
+      let given : ByOneCall N H 0 Direct x X = record { buffer = buffer; taken = taken; near = λ i p. unchanged (at X i) } in
       let back = back-by-one-call N H 0 Direct x X out samples given played .0 in
       ext-getD (pos 0) (playedOut N H X out) x (back .long ∙ sym (facts .long)) (λ i p. back .same (lit≤ tt) i (omega (arith, back .long)) refl refl)

@@ -122,10 +122,6 @@ pub base-length : (N : ℕ) → length (baseList N) ≡ N / 2
 unfolding baseList
 base-length N = base-of-length (N / 2) (F N)
 
-pub lift-at : (N j k : ℕ) → j < N / 2 → k < N / 2 → at (liftList N) (j * (N / 2) + k) ≡ F N k j +ℤ pos (2 ^ 26)
-unfolding liftList
-lift-at N = lift-of-at (N / 2) (F N)
-
 pub lift-is : (N : ℕ) → Lifted (liftList N) (2 ^ 27)
 unfolding liftList
 lift-is N = lift-of-is (N / 2) (F N) (F-size N)

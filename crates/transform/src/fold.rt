@@ -9,7 +9,7 @@ ghost use Rattle.arithmetic.specs.Lists.{table, Small};
 ghost use Rattle.transform.specs.HopLaws.{windowed, hops};
 ghost use Rattle.tables.specs.HalfLaws.{WindowHalf, Halves};
 
-// rnd(w x / 2^18). To 2^16 times the product x itself is added, which is less: so a half goes up for x above zero, and down below.
+// rnd(w x / 2^18). To 2^16 times the product x itself is added, which is smaller than 2^16: so it decides at an exact half, and nowhere else.
 fn weighted(w: i32, x: i16) -> i32
     requires { ⌜ pos 0 ≤ℤ w ⌝ }
     requires { ⌜ natAbs w ≤ 2 ^ 26 ⌝ }

@@ -18,7 +18,7 @@ const INPUT: i32 = 536870912;
 
 const KERNEL: i64 = 67108864;
 
-// From this block length on lifts pay; shorter sums are made of products of 64 bits.
+// From this block length on lifts pay in the sums of its thirds; those of shorter blocks are made of products of 64 bits.
 const LONG: usize = 72;
 
 // A sum's inputs, lifted.
