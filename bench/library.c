@@ -35,7 +35,7 @@ static uint32_t step(size_t n, size_t blocks, const int32_t *spectra, int16_t *s
     static int64_t state[DAPPLESCREE_STATE];
     uint32_t refused = dapplescree_stream_fresh(n, state, DAPPLESCREE_STATE);
     for (size_t b = 0; b < blocks; b++)
-        refused |= dapplescree_stream_step(state, DAPPLESCREE_STATE, spectra + b * (n / 2), n / 2, sound + b * (n / 2), n / 2);
+        refused |= dapplescree_stream_step(state, DAPPLESCREE_STATE, (uint32_t)b, spectra + b * (n / 2), n / 2, sound + b * (n / 2), n / 2);
     return refused;
 }
 

@@ -44,9 +44,10 @@ static uint32_t fresh(void)
     return dapplescree_stream_fresh(n, state, DAPPLESCREE_STATE);
 }
 
+/* it runs more than once on a stream, and each time brings the block that is expected */
 static uint32_t step(void)
 {
-    return dapplescree_stream_step(state, DAPPLESCREE_STATE, spectra, m, sound, m);
+    return dapplescree_stream_step(state, DAPPLESCREE_STATE, (uint32_t)state[DAPPLESCREE_EXPECTED], spectra, m, sound, m);
 }
 
 static uint32_t recording_direct(void)

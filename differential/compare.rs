@@ -1,7 +1,7 @@
 //! The library held against the reference, call by call.
 use crate::inputs::*;
 use crate::library;
-use crate::reference::{offered, page_length, tail_limit, Bank, Route, COEFFICIENT_LIMIT, HOPS, LENGTHS, STATE};
+use crate::reference::{offered, page_length, tail_limit, Bank, Route, COEFFICIENT_LIMIT, EXPECTED, HOPS, LENGTHS, STATE, STORAGE, TAIL};
 use std::fmt::Debug;
 
 /// More than any hop.
@@ -154,18 +154,37 @@ impl Compare {
     }
 
     /// One step on a state, which then holds what the library left.
-    fn stream_step(&mut self, state: &mut Vec<i64>, x: &[i32], length: usize) -> (u32, Vec<i16>) {
+    fn stream_step(&mut self, state: &mut Vec<i64>, number: u32, x: &[i32], length: usize) -> (u32, Vec<i16>) {
         let output = self.rubbish16(length);
         let before = state.clone();
         let mut lent = Lent::new(&before, 0);
-        let mut expected = before.clone();
-        let library = |x: &[i32], out: &mut [i16]| library::stream_step(lent.part(), x, out);
-        let told = self.call("stream_step", &before, x, output, library, |bank, x, out| bank.stream_step(&mut expected, x, out));
-        if lent.part() != expected || !lent.margins_kept() {
-            mismatch("stream_step", &(&before, x, length), &(told.0, lent.part()), &(told.0, expected));
+        let mut after = before.clone();
+        let library = |x: &[i32], out: &mut [i16]| library::stream_step(lent.part(), number, x, out);
+        let told = self.call("stream_step", &(&before, number), x, output, library, |bank, x, out| {
+            bank.stream_step(&mut after, number, x, out)
+        });
+        if lent.part() != after || !lent.margins_kept() {
+            mismatch("stream_step", &(&before, number, x, length), &(told.0, lent.part()), &(told.0, after));
         }
-        *state = expected;
+        *state = after;
         told
+    }
+
+    /// The same with the number that the state expects.
+    fn next_step(&mut self, state: &mut Vec<i64>, x: &[i32]) {
+        self.stream_step(state, expected(state), x, x.len());
+    }
+
+    /// The same with anything, mostly as it should be.
+    fn some_step(&mut self, state: &mut Vec<i64>, m: usize) {
+        let number = if self.random.one_in(6) { wrong_number(&mut self.random, state) } else { expected(state) };
+        let (count, length) = (self.some_length(m), self.some_length(m));
+        let x = self.some_coefficients(count);
+        self.stream_step(state, number, &x, length);
+    }
+
+    fn offer(&mut self, offer: &mut Offer) -> u32 {
+        self.stream_step(&mut offer.state, offer.number, &offer.x, offer.length).0
     }
 
     fn fresh_state(&mut self, n: usize) -> Vec<i64> {
@@ -263,25 +282,23 @@ impl Compare {
         let mut running = self.fresh_state(n);
         for x in &sets {
             let mut state = self.fresh_state(n);
-            self.stream_step(&mut state, x, m);
-            self.stream_step(&mut running, x, m);
+            self.next_step(&mut state, x);
+            self.next_step(&mut running, x);
             // a tail that brings every sum to a half, or one below it, so that V shows whole
             let v = self.bank.v(n, x);
             for beside in [0, 1] {
                 let mut made = self.fresh_state(n);
                 for i in 0..m {
-                    made[1 + i] = n as i64 * (1 << 29) - beside - v[i];
+                    made[TAIL + i] = n as i64 * (1 << 29) - beside - v[i];
                 }
-                self.stream_step(&mut made, x, m);
+                self.next_step(&mut made, x);
             }
         }
         // long lists from a fresh stream, refused steps in between
         for _ in 0..40 {
             let mut state = self.fresh_state(n);
             for _ in 0..25 {
-                let (count, length) = (self.some_length(m), self.some_length(m));
-                let x = self.some_coefficients(count);
-                self.stream_step(&mut state, &x, length);
+                self.some_step(&mut state, m);
             }
         }
         // one coefficient at or beyond its limit, at every place
@@ -290,7 +307,8 @@ impl Compare {
                 for length in [m, m - 1] {
                     let mut x = coefficients(&mut self.random, m);
                     x[k] = size;
-                    self.stream_step(&mut running, &x, length);
+                    let number = expected(&running);
+                    self.stream_step(&mut running, number, &x, length);
                 }
             }
         }
@@ -303,20 +321,15 @@ impl Compare {
         for first in (-220..=220).chain([432, i64::MIN, i64::MAX, (1 << 32) + n as i64, (1 << 62) + n as i64, i64::MIN + n as i64, -1 << 32]) {
             let mut made = state(&mut self.random, n);
             made[0] = first;
-            let count = self.some_length(m);
-            let length = self.some_length(m);
-            let x = self.some_coefficients(count);
-            self.stream_step(&mut made, &x, length);
+            self.some_step(&mut made, m);
         }
         let edges = [limit, -limit, limit + 1, -limit - 1, limit * 2, i64::MAX, i64::MIN, i64::MIN + 1];
-        for at in 0..STATE - 1 {
+        for at in 0..STORAGE {
             for edge in edges {
                 for _ in 0..3 {
                     let mut made = state(&mut self.random, n);
-                    made[1 + at] = edge;
-                    let (count, length) = (self.some_length(m), self.some_length(m));
-                    let x = self.some_coefficients(count);
-                    self.stream_step(&mut made, &x, length);
+                    made[TAIL + at] = edge;
+                    self.some_step(&mut made, m);
                 }
             }
         }
@@ -324,9 +337,7 @@ impl Compare {
             for _ in 0..8 {
                 let mut made = state(&mut self.random, n);
                 made.resize(length, 5);
-                let (count, out) = (self.some_length(m), self.some_length(m));
-                let x = self.some_coefficients(count);
-                self.stream_step(&mut made, &x, out);
+                self.some_step(&mut made, m);
             }
         }
         // sums that meet an exact half, or lie one beside it, about zero and about both ends of a sample
@@ -338,9 +349,51 @@ impl Compare {
                 let mut made = state(&mut self.random, n);
                 for i in 0..m {
                     let sum = target * unit + self.random.pick(&[0, unit / 2, -unit / 2]) + beside;
-                    made[1 + i] = sum - v[i];
+                    made[TAIL + i] = sum - v[i];
                 }
-                self.stream_step(&mut made, &x, m);
+                self.next_step(&mut made, &x);
+            }
+        }
+    }
+
+    /// Streams that no call made to expect what they do: a step is taken exactly if it brings that number, and so is the next one.
+    fn forged_numbers(&mut self, n: usize) {
+        for forged in FORGED_NUMBERS {
+            let low = forged as u32;
+            let numbers = [low, 0, u32::MAX, low.wrapping_add(1), low.wrapping_sub(1), low ^ 1 << 31];
+            for pair in numbers.iter().flat_map(|&first| numbers.map(|second| [first, second])) {
+                let mut made = state(&mut self.random, n);
+                made[EXPECTED] = forged;
+                for number in pair {
+                    let right = i64::from(number) == made[EXPECTED];
+                    self.numbered_step(&mut made, number, if right { 0 } else { 7 });
+                }
+            }
+        }
+        // the last number is taken once, and none follows it
+        let mut made = state(&mut self.random, n);
+        made[EXPECTED] = LAST;
+        self.numbered_step(&mut made, u32::MAX, 0);
+        self.numbered_step(&mut made, 0, 7);
+        self.numbered_step(&mut made, u32::MAX, 7);
+        assert_eq!(made[EXPECTED], LAST + 1);
+    }
+
+    /// A step that is due an answer by its number alone.
+    fn numbered_step(&mut self, state: &mut Vec<i64>, number: u32, due: u32) {
+        let x = coefficients(&mut self.random, state[0] as usize / 2);
+        assert_eq!(self.stream_step(state, number, &x, x.len()).0, due);
+    }
+
+    /// Every choice of a step's causes: the first of them is returned.
+    fn causes(&mut self, n: usize) {
+        for choice in 0..1 << CAUSES.len() {
+            let chosen: Vec<usize> = (0..CAUSES.len()).filter(|cause| choice >> cause & 1 == 1).collect();
+            for _ in 0..12 {
+                let made = state(&mut self.random, n);
+                let mut offer = Offer::good(&mut self.random, &made);
+                chosen.iter().rev().for_each(|&cause| offer.damage(&mut self.random, cause));
+                assert_eq!(self.offer(&mut offer), chosen.first().map_or(0, |&cause| CAUSES[cause]));
             }
         }
     }
@@ -478,7 +531,7 @@ impl Compare {
         changed
     }
 
-    /// A recording there and back: block by block with refused steps in between, and by the calls over recordings. The blocks are made here:
+    /// A recording there and back: block by block, in whatever order they arrive, and by the calls over recordings. The blocks are made here:
     /// with a hop of zeros put before the recording and one after it, block b covers its hops b - 1 and b.
     fn round_trip(&mut self, n: usize, x: &[i16], q: i64) {
         let m = n / 2;
@@ -513,16 +566,11 @@ impl Compare {
                 }
             }
         };
-        let mut state = self.fresh_state(n);
-        for b in 0..=hops {
-            if self.random.one_in(3) {
-                self.refused_step(&mut state, m);
-            }
-            let (number, hop) = self.stream_step(&mut state, &brought[b], m);
-            assert_eq!(number, 0);
-            if b > 0 {
-                near(b - 1, &hop, "a list of steps");
-            }
+        let orders = arrivals(&mut self.random, hops + 1);
+        let chosen = self.random.below(orders.len());
+        let returned = self.delivered(n, &brought, &orders[chosen]);
+        for h in 0..hops {
+            near(h, &returned[h + 1], "a list of steps");
         }
         if let Some(&route) = choice.get(style) {
             assert_eq!(self.analyse_recording(route, n, hops, x, (hops + 1) * m), (0, given));
@@ -534,18 +582,53 @@ impl Compare {
         }
     }
 
-    fn refused_step(&mut self, state: &mut Vec<i64>, m: usize) {
-        let spoiled = self.random.below(2);
-        let mut x = coefficients(&mut self.random, m);
-        let mut length = m;
-        if spoiled == 0 {
-            x[0] = self.random.pick(&BEYOND);
-        } else {
-            length = wrong_length(&mut self.random, m);
+    /// Blocks offered to a fresh stream in the order in which they arrive, over and over while any is taken, with other refused steps in between.
+    /// A block is taken exactly if its number is how many were taken before it. The hops that came back.
+    fn delivered(&mut self, n: usize, blocks: &[Vec<i32>], order: &[usize]) -> Vec<Vec<i16>> {
+        let mut state = self.fresh_state(n);
+        let mut hops = Vec::new();
+        loop {
+            let before = hops.len();
+            for &b in order {
+                if self.random.one_in(3) {
+                    self.refused_step(&state);
+                }
+                let (number, hop) = self.stream_step(&mut state, b as u32, &blocks[b], n / 2);
+                assert_eq!(number, if b == hops.len() { 0 } else { 7 });
+                if number == 0 {
+                    hops.push(hop);
+                }
+            }
+            if hops.len() == before {
+                return hops;
+            }
         }
-        let before = state.clone();
-        let (number, _) = self.stream_step(state, &x, length);
-        assert!(number == 3 - spoiled as u32 && *state == before);
+    }
+
+    /// A step that is refused for its number, a length or a coefficient leaves the stream as it was.
+    fn refused_step(&mut self, state: &[i64]) {
+        let mut offer = Offer::good(&mut self.random, state);
+        let cause = self.random.pick(&[2, 3, 4]);
+        offer.damage(&mut self.random, cause);
+        assert_eq!(self.offer(&mut offer), CAUSES[cause]);
+        assert_eq!(offer.state, state);
+    }
+
+    /// Blocks shuffled, repeated, late and missing. The sound is that of the recording, up to the block that is missing.
+    fn out_of_order(&mut self, n: usize) {
+        let m = n / 2;
+        for hops in [1, 2, 5, 20] {
+            let x = samples(&mut self.random, hops * m);
+            let (_, given) = self.analyse_recording(Route::Direct, n, hops, &x, (hops + 1) * m);
+            let blocks: Vec<Vec<i32>> = given.chunks(m).map(<[i32]>::to_vec).collect();
+            for order in arrivals(&mut self.random, hops + 1) {
+                let returned = self.delivered(n, &blocks, &order);
+                assert_eq!(returned[1..].concat(), x);
+                let missing = self.random.below(hops + 1);
+                let rest: Vec<usize> = order.into_iter().filter(|&b| b != missing).collect();
+                assert_eq!(self.delivered(n, &blocks, &rest), returned[..missing]);
+            }
+        }
     }
 
     fn round_trips(&mut self, n: usize) {
@@ -580,6 +663,9 @@ pub fn run(bank: Bank, seed: u64) -> u64 {
         compare.blocks(n);
         compare.steps(n);
         compare.forged(n);
+        compare.forged_numbers(n);
+        compare.causes(n);
+        compare.out_of_order(n);
         compare.recordings(n);
         compare.pages(n);
         compare.round_trips(n);

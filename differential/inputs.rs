@@ -1,5 +1,5 @@
 //! Samples, coefficients and streams to call with.
-use crate::reference::{offered, tail_limit, Bank, Route, COEFFICIENT_LIMIT, STATE, STORAGE};
+use crate::reference::{offered, tail_limit, Bank, Route, COEFFICIENT_LIMIT, EXPECTED, STATE, STORAGE, TAIL};
 use std::collections::HashMap;
 
 pub const ROUTES: [Route; 2] = [Route::Direct, Route::Short];
@@ -38,8 +38,20 @@ impl Random {
         from[self.below(from.len())]
     }
 
+    /// One that differs from the stated one.
+    pub fn other<T: Copy + PartialEq>(&mut self, than: T, from: &[T]) -> T {
+        let others: Vec<T> = from.iter().copied().filter(|&z| z != than).collect();
+        self.pick(&others)
+    }
+
     pub fn one_in(&mut self, count: usize) -> bool {
         self.below(count) == 0
+    }
+
+    pub fn shuffle<T>(&mut self, list: &mut [T]) {
+        for i in (1..list.len()).rev() {
+            list.swap(i, self.below(i + 1));
+        }
     }
 }
 
@@ -199,13 +211,64 @@ pub const BEYOND: [i32; 6] = [COEFFICIENT_LIMIT + 1, -COEFFICIENT_LIMIT - 1, COE
 
 /// A length that differs from the stated one.
 pub fn wrong_length(random: &mut Random, length: usize) -> usize {
-    let others = [0, 1, length.saturating_sub(1), length + 1, length / 2, 2 * length, length + STORAGE];
-    loop {
-        let other = random.pick(&others);
-        if other != length {
-            return other;
-        }
-    }
+    random.other(length, &[0, 1, length.saturating_sub(1), length + 1, length / 2, 2 * length, length + STORAGE])
+}
+
+/// The number that a state expects; of a forged one its low bits, which no step may take for it.
+pub fn expected(state: &[i64]) -> u32 {
+    state.get(EXPECTED).map_or(0, |&number| number as u32)
+}
+
+/// A number that a state does not expect: beside the one that it does, at an end, or alike in half of its bits.
+pub fn wrong_number(random: &mut Random, state: &[i64]) -> u32 {
+    let right = expected(state);
+    let any = random.bits() as u32;
+    let others = [0, 1, right.wrapping_sub(1), right.wrapping_add(1), right ^ 1 << 31, right & 0xffff, right ^ 1 << 16, u32::MAX, any];
+    random.other(right, &others)
+}
+
+/// The last number of a block.
+pub const LAST: i64 = u32::MAX as i64;
+
+/// Expected numbers to forge: about either end of a block's number, and beyond it with one in the low bits.
+pub const FORGED_NUMBERS: [i64; 20] = [
+    1,
+    65_535,
+    (1 << 31) - 1,
+    1 << 31,
+    LAST - 1,
+    LAST,
+    LAST + 1,
+    LAST + 2,
+    LAST + 8,
+    (1 << 33) - 1,
+    1 << 40,
+    i64::MAX - LAST,
+    i64::MAX,
+    -1,
+    -2,
+    -LAST,
+    -LAST - 1,
+    -LAST - 2,
+    i64::MIN,
+    i64::MIN + 7,
+];
+
+/// The numbers of so many blocks, at least two, in orders in which they may arrive: shuffled, repeated, late, backwards. Each holds all of them.
+pub fn arrivals(random: &mut Random, count: usize) -> Vec<Vec<usize>> {
+    let in_order: Vec<usize> = (0..count).collect();
+    let mut shuffled = in_order.clone();
+    random.shuffle(&mut shuffled);
+    let repeated = in_order.iter().flat_map(|&b| vec![b; 1 + random.below(3)]).collect();
+    let mut both = [&shuffled[..], &in_order, &shuffled].concat();
+    random.shuffle(&mut both);
+    // one block lets others pass
+    let mut late = in_order.clone();
+    let first = random.below(count - 1);
+    let block = late.remove(first);
+    late.insert(first + 1 + random.below(count - 1 - first), block);
+    let backwards = in_order.iter().rev().copied().collect();
+    vec![in_order, shuffled, repeated, both, late, backwards]
 }
 
 /// Block lengths that are not tabled, some equal to a tabled one in their low bits.
@@ -231,14 +294,15 @@ pub const WRONG_N: [usize; 19] = [
     usize::MAX - 11,
 ];
 
-/// Lengths of a state that differ from the stated one, among them N with the tail of N = 72 alone.
-pub const WRONG_STATE: [usize; 6] = [0, 1, 37, STATE - 1, STATE + 1, 2 * STATE];
+/// Lengths of a state that differ from the stated one, among them those that end about the expected number, and with the tail of N = 72 alone.
+pub const WRONG_STATE: [usize; 7] = [0, 1, 2, 38, STATE - 1, STATE + 1, 2 * STATE];
 
-/// A state as a stream may come to hold: N, a tail within its limit, and anything in storage from M on.
+/// A state as a stream may come to hold: N, an expected number that a block bears, a tail within its limit, and anything in storage from M on.
 pub fn state(random: &mut Random, n: usize) -> Vec<i64> {
     let limit = tail_limit(n);
     let top = random.pick(&[0, 1, n as i64 * (1 << 29), n as i64 * (1 << 45), limit]);
-    let mut state = vec![n as i64];
+    let any = random.between(0, LAST);
+    let mut state = vec![n as i64, random.pick(&[0, 1, 2, any, LAST - 1, LAST])];
     for i in 0..STORAGE {
         state.push(if i >= n / 2 {
             random.bits() as i64
@@ -249,4 +313,50 @@ pub fn state(random: &mut Random, n: usize) -> Vec<i64> {
         });
     }
     state
+}
+
+/// What a step is called with.
+pub struct Offer {
+    pub state: Vec<i64>,
+    pub number: u32,
+    pub x: Vec<i32>,
+    pub length: usize,
+}
+
+/// What a step returns for each of its causes, in the order in which they are tested: the state's length, its N and tail, the block's number,
+/// the length of a buffer, a coefficient.
+pub const CAUSES: [u32; 5] = [2, 4, 7, 2, 3];
+
+impl Offer {
+    /// The block that a sound state expects.
+    pub fn good(random: &mut Random, state: &[i64]) -> Offer {
+        let m = state[0] as usize / 2;
+        Offer { state: state.to_vec(), number: expected(state), x: coefficients(random, m), length: m }
+    }
+
+    /// Brings about one of CAUSES. Several go from the last to the first, since a damaged state no longer says what the rest should be.
+    pub fn damage(&mut self, random: &mut Random, cause: usize) {
+        match cause {
+            0 => self.state.resize(random.pick(&WRONG_STATE), 5),
+            1 => damage_stream(random, &mut self.state),
+            2 => self.number = wrong_number(random, &self.state),
+            3 if random.one_in(2) => self.length = wrong_length(random, self.length),
+            3 => self.x.resize(wrong_length(random, self.length), 0),
+            _ => {
+                let at = random.below(self.x.len());
+                self.x[at] = random.pick(&BEYOND);
+            }
+        }
+    }
+}
+
+/// Puts an N that is not tabled in a state, or an entry of the tail beyond its limit.
+fn damage_stream(random: &mut Random, state: &mut [i64]) {
+    let n = state[0];
+    let limit = tail_limit(n as usize);
+    if random.one_in(2) {
+        state[0] = random.pick(&[0, 48, -n, n + (1 << 32), i64::MIN]);
+    } else {
+        state[TAIL + random.below(n as usize / 2)] = random.pick(&[limit + 1, -limit - 1, i64::MAX, i64::MIN]);
+    }
 }

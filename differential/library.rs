@@ -8,6 +8,7 @@ extern "C" {
     fn dapplescree_stream_step(
         state: *mut i64,
         state_length: usize,
+        number: u32,
         coefficients: *const i32,
         coefficients_length: usize,
         hop: *mut i16,
@@ -54,8 +55,8 @@ pub fn stream_fresh(n: usize, state: &mut [i64]) -> u32 {
     unsafe { dapplescree_stream_fresh(n, state.as_mut_ptr(), state.len()) }
 }
 
-pub fn stream_step(state: &mut [i64], x: &[i32], out: &mut [i16]) -> u32 {
-    unsafe { dapplescree_stream_step(state.as_mut_ptr(), state.len(), x.as_ptr(), x.len(), out.as_mut_ptr(), out.len()) }
+pub fn stream_step(state: &mut [i64], number: u32, x: &[i32], out: &mut [i16]) -> u32 {
+    unsafe { dapplescree_stream_step(state.as_mut_ptr(), state.len(), number, x.as_ptr(), x.len(), out.as_mut_ptr(), out.len()) }
 }
 
 pub fn analyse_recording(route: Route, n: usize, hops: usize, x: &[i16], out: &mut [i32]) -> u32 {

@@ -1,4 +1,4 @@
-//! Document 01, with P1, P2, P4 and P5 of document 02, written out anew: exact series, naive sums, rounding by size. It shares no table with any other file.
+//! Document 01, with P1, P2, P4, P5 and P6 of document 02, written out anew: exact series, naive sums, rounding by size. It shares no table with any other file.
 
 /// A natural number of any size, in base 2^64, lowest digit first.
 #[derive(Clone)]
@@ -102,7 +102,10 @@ pub const LENGTHS: [usize; 6] = [12, 24, 36, 72, 108, 216];
 /// Those at which the short route is offered.
 pub const SHORT_LENGTHS: [usize; 4] = [12, 24, 36, 72];
 pub const STORAGE: usize = 108;
-pub const STATE: usize = 1 + STORAGE;
+/// A state: N, the expected number, and from its place TAIL on the tail's storage.
+pub const EXPECTED: usize = 1;
+pub const TAIL: usize = 2;
+pub const STATE: usize = TAIL + STORAGE;
 pub const COEFFICIENT_LIMIT: i32 = 536_870_912;
 pub const HOPS: usize = 4095;
 
@@ -276,7 +279,7 @@ impl Bank {
         0
     }
 
-    pub fn stream_step(&self, state: &mut [i64], x: &[i32], out: &mut [i16]) -> u32 {
+    pub fn stream_step(&self, state: &mut [i64], number: u32, x: &[i32], out: &mut [i16]) -> u32 {
         if state.len() != STATE {
             return 2;
         }
@@ -285,8 +288,11 @@ impl Bank {
         };
         let m = n / 2;
         let limit = i128::from(tail_limit(n));
-        if state[1..1 + m].iter().any(|&t| i128::from(t) < -limit || i128::from(t) > limit) {
+        if state[TAIL..TAIL + m].iter().any(|&t| i128::from(t) < -limit || i128::from(t) > limit) {
             return 4;
+        }
+        if i64::from(number) != state[EXPECTED] {
+            return 7;
         }
         if x.len() != m || out.len() != m {
             return 2;
@@ -294,7 +300,9 @@ impl Bank {
         if beyond(x) {
             return 3;
         }
-        out.copy_from_slice(&self.advance(n, &mut state[1..], x));
+        out.copy_from_slice(&self.advance(n, &mut state[TAIL..], x));
+        // after the last number it is 2^32, which no block bears
+        state[EXPECTED] = i64::from(number) + 1;
         0
     }
 

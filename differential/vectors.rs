@@ -50,10 +50,10 @@ fn holds(bank: &Bank, line: &str) -> bool {
             let mut now = before.clone();
             bank.stream_fresh(number(n), &mut now) == number(code) && now == after(after_state, &before)
         }
-        ["stream_step", state, x, length, code, out, after_state] => {
+        ["stream_step", state, block, x, length, code, out, after_state] => {
             let before: Vec<i64> = list(state);
             let mut now = before.clone();
-            agrees(length, code, out, |b| bank.stream_step(&mut now, &list(x), b)) && now == after(after_state, &before)
+            agrees(length, code, out, |b| bank.stream_step(&mut now, number(block), &list(x), b)) && now == after(after_state, &before)
         }
         ["analyse_recording", r, n, hops, x, length, code, out] => {
             agrees(length, code, out, |b| bank.analyse_recording(route(r), number(n), number(hops), &list(x), b))

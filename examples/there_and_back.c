@@ -29,9 +29,9 @@ int main(void)
         recording[i] = (int16_t)(i * 7919 % 65536 - 32768);
 
     refused |= dapplescree_stream_fresh(N, state, DAPPLESCREE_STATE);
-    for (int b = 0; b <= HOPS; b++) {
+    for (uint32_t b = 0; b <= HOPS; b++) {
         refused |= dapplescree_analyse_direct(N, padded + b * M, N, block, M);
-        refused |= dapplescree_stream_step(state, DAPPLESCREE_STATE, block, M, hops + b * M, M);
+        refused |= dapplescree_stream_step(state, DAPPLESCREE_STATE, b, block, M, hops + b * M, M);
     }
     refused |= dapplescree_analyse_recording_direct(N, HOPS, recording, SAMPLES, blocks, COEFFICIENTS);
     refused |= dapplescree_synthesise_recording(N, HOPS, blocks, COEFFICIENTS, whole, SAMPLES);

@@ -14,11 +14,12 @@
  *   2  a length differs from the stated one, or hops is not 1 to 4095
  *   3  a coefficient is below -536870912 or above 536870912
  *   4  the state's entry 0 is not tabled, or one of its first M tail entries lies beyond plus or minus M * 2^55
+ *   7  a block's number is not the one that the state expects
  *
  * Under each call stand its numbers in the order in which they are tested; the first cause that holds is returned. Every check is made before
- * anything is written: where the number is not 0, every buffer and the state hold what they held. Where it is 0, the buffer that the call fills
- * holds what is said below, the others hold what they held. No call keeps anything between calls, or reads or writes anything but its
- * arguments, so calls on different buffers may run at the same time.
+ * anything is written: where the returned number is not 0, every buffer and the state hold what they held. Where it is 0, the buffer that the
+ * call fills holds what is said below, the others hold what they held. No call keeps anything between calls, or reads or writes anything but
+ * its arguments, so calls on different buffers may run at the same time.
  *
  * No call allocates. What a call takes of the stack is measured (bench/run stack) and not proved: below 6 KiB for n up to 72, below 7 KiB for
  * n = 108 and below 18 KiB for n = 216.
@@ -26,9 +27,9 @@
  * These are promises for every value of every argument, under what C cannot check: each pointer is not null, also where its length is 0, is
  * aligned, and points to as many entries as the length that follows it says; the buffers of one call do not overlap; nothing else writes to
  * them, or reads what is being written, until the call returns. A size is without a sign: a negative number handed in for one arrives as a
- * huge size, and is refused as such. The numbers returned, and what each buffer then holds, are the contracts of crates/c_face/src/lib.rt,
- * which are proved; what is said of chains of states, of the distance of returned sound and of reading a page are theorems of crates/demands
- * over the same definitions.
+ * huge size, and is refused as such. A block's number has 32 bits: of a wider one its low 32 bits arrive. The numbers returned, and what each
+ * buffer then holds, are the contracts of crates/c_face/src/lib.rt, which are proved; what is said of chains of states, of the distance of
+ * returned sound and of reading a page are theorems of crates/demands over the same definitions.
  */
 #ifndef DAPPLESCREE_H
 #define DAPPLESCREE_H
@@ -40,8 +41,11 @@
 extern "C" {
 #endif
 
-/* The entries of a state: N, and then the tail's storage. Write the name and not the number: later versions have another. */
-#define DAPPLESCREE_STATE 109
+/* The entries of a state: N, the expected number, and then the tail's storage. Write the name and not the number: later versions have another. */
+#define DAPPLESCREE_STATE 110
+
+/* Which entry holds the number of the block that the state expects. It is 4294967296, which no block has, once the last number is taken. */
+#define DAPPLESCREE_EXPECTED 1
 
 /* The bytes of a page of `hops` hops at the tabled length n: a line of 81 for every six coefficients. It reads each argument once. */
 #define DAPPLESCREE_PAGE(n, hops) (((size_t)(hops) + 1) * ((size_t)(n) / 12) * 81)
@@ -66,27 +70,32 @@ uint32_t dapplescree_analyse_short(size_t n, const int16_t *samples, size_t samp
 /* Makes a fresh stream.
  *   1  n is not tabled
  *   2  state_length is not DAPPLESCREE_STATE
- *   0  state[0] is N and every other entry is 0
+ *   0  state[0] is N and every other entry is 0: block 0 is expected
  */
 uint32_t dapplescree_stream_fresh(size_t n, int64_t *state, size_t state_length);
 
-/* One synthesis step. N is state[0], and tail(i) is state[1 + i].
+/* One synthesis step, for the block that bears this number. N is state[0], the expected number is state[DAPPLESCREE_EXPECTED], and tail(i) is
+ * state[2 + i].
  *   2  state_length is not DAPPLESCREE_STATE
  *   4  state[0] is not tabled (a negative number is not), or a tail entry, i below M, lies beyond plus or minus M * 2^55
+ *   7  number is not the expected one; every number, where the expected one is below 0 or above 4294967295
  *   2  coefficients_length is not M, or hop_length is not M
  *   3  a coefficient is beyond its limit
  *   0  hop[i] is rnd((tail(i) + V(i)) / (N * 2^30)), clamped to -32768 .. 32767, i below M, with V(i) = W(i) * U(i) and
- *      U(i) = rnd((the sum over k of coefficients[k] * K(i,k)) / 2^26); tail(i) then is V(M + i), i below M; state[0] and the tail's
- *      storage from M on are kept
- * A state that was made by dapplescree_stream_fresh and changed by this call alone is never refused with 4. The first hop of a fresh stream is
- * the run-in. Where the steps taken on one stream, from a fresh one, bring the blocks of a recording in their order, as analysis gave them or
- * with each coefficient changed by at most Q, the hop of block b, b at least 1, is the recording's hop b - 1, each sample within (Q + 8) / 16
- * of it, rounded down, so equal up to Q = 7; Q + 16 stands for Q where block b - 1 or b was analysed by the short route. Refused steps
- * in between change nothing. A caller who analyses block by block hands in zeros for the hop before the recording and for the one after it;
- * how many blocks a stream takes has no limit.
+ *      U(i) = rnd((the sum over k of coefficients[k] * K(i,k)) / 2^26); the expected number then is one more, and tail(i) is V(M + i),
+ *      i below M; state[0] and the tail's storage from M on are kept
+ * A state that was made by dapplescree_stream_fresh and changed by this call alone is never refused with 4, and what it expects is the number of
+ * steps that it has taken: so blocks are taken as 0, 1, 2 .. without a gap, and one that is early, late or repeated is 7. Block 4294967295 is
+ * the last that a stream takes: after it no number is expected, 0 neither, and every block is 7.
+ *
+ * The first hop of a fresh stream is the run-in. Blocks may be offered to a fresh stream in whatever order, and however often. Where each one
+ * that is taken under number b is block b of one recording, as analysis gave it or with each coefficient changed by at most Q, the step taken
+ * under b, b at least 1, returns the recording's hop b - 1, each sample within (Q + 8) / 16 of it, rounded down, so equal up to Q = 7; Q + 16
+ * stands for Q where block b - 1 or b was analysed by the short route. Nothing is asked of a block that is refused: it changes nothing, and
+ * returns no hop. A caller who analyses block by block hands in zeros for the hop before the recording and for the one after it.
  */
-uint32_t dapplescree_stream_step(int64_t *state, size_t state_length, const int32_t *coefficients, size_t coefficients_length, int16_t *hop,
-                                 size_t hop_length);
+uint32_t dapplescree_stream_step(int64_t *state, size_t state_length, uint32_t number, const int32_t *coefficients,
+                                 size_t coefficients_length, int16_t *hop, size_t hop_length);
 
 /* A whole recording of `hops` hops, each block analysed directly.
  *   1  n is not tabled
@@ -109,8 +118,8 @@ uint32_t dapplescree_analyse_recording_short(size_t n, size_t hops, const int16_
  *   1  n is not tabled
  *   2  hops is not 1 to 4095, coefficients_length is not (hops + 1) * M, or samples_length is not hops * M
  *   3  a coefficient is beyond its limit, in whichever block
- *   0  samples[h * M + i] is hop sample i of step h + 1, h below hops, where step b, b from 0 to hops, is taken from a fresh stream on with
- *      coefficients[b * M] .. coefficients[b * M + M - 1]; the run-in, the hop of step 0, is dropped
+ *   0  samples[h * M + i] is hop sample i of step h + 1, h below hops, where step b, b from 0 to hops, is taken under number b, from a fresh
+ *      stream on, with coefficients[b * M] .. coefficients[b * M + M - 1]; the run-in, the hop of step 0, is dropped
  * Where the coefficients are as analysis gave them for the recording's blocks, by these calls or block by block, each changed by at most Q,
  * every sample is within (Q + 8) / 16 of the recording's at the same place, rounded down, so equal up to Q = 7; Q + 16 stands for Q where one
  * of the two blocks that cover it was analysed by the short route.

@@ -1,4 +1,4 @@
-"""Document 01, with P1, P2, P4 and P5 of document 02, in exact whole numbers, as plainly as they are written: the source of every stored output.
+"""Document 01, with P1, P2, P4, P5 and P6 of document 02, in exact whole numbers, as plainly as they are written: the source of every stored output.
 It shares no table, folding or rounding with the crates."""
 from fractions import Fraction
 from functools import cache
@@ -146,7 +146,8 @@ def page_lines(N, X):
 
 
 # The calls. Each gives its number and what it writes; None: every buffer and stream is left as it was.
-# A stream is N and the STORAGE entries of its tail. A buffer that is only written stands as its length.
+# A stream is N, the number of the block that it expects (2^32 for none) and the STORAGE entries of its tail.
+# A buffer that is only written stands as its length.
 
 COEFFICIENT_LIMIT = 536870912
 HOPS = 4095
@@ -170,21 +171,24 @@ def analyse(route, N, x, length):
 
 def fresh(N):
     if N not in LENGTHS:
-        return 1, (0, [0] * STORAGE)
-    return 0, (N, [0] * STORAGE)
+        return 1, (0, 0, [0] * STORAGE)
+    return 0, (N, 0, [0] * STORAGE)
 
 
-def step(stream, X, length):
-    """The number, the hop and the stream to go on with."""
-    N, tail = stream
+def step(stream, b, X, length):
+    """The number, the hop and the stream to go on with. X is offered as block b."""
+    N, expected, tail = stream
     if N not in LENGTHS or any(abs(t) > tail_limit(N) for t in tail[: N // 2]):
         return 4, None, stream
+    # b has 32 bits: every b differs from an expected number beyond them, or below 0
+    if b != expected:
+        return 7, None, stream
     if len(X) != N // 2 or length != N // 2:
         return 2, None, stream
     if beyond(X):
         return 3, None, stream
     hop, new = next_hop(N, tail, X)
-    return 0, hop, (N, new + tail[N // 2 :])
+    return 0, hop, (N, expected + 1, new + tail[N // 2 :])
 
 
 def analyse_recording(route, N, H, x, length):
@@ -225,9 +229,14 @@ def inner(N, H, out):
     return out
 
 
-# The calls of include/dapplescree.h over a state, N and then the tail. A state is returned as it then stands.
+# The calls over a state, in place and of include/dapplescree.h: N, the expected number and then the tail. A state is returned as it then stands.
 
-STATE = 1 + STORAGE
+STATE = 2 + STORAGE
+
+
+def state_of(stream):
+    N, expected, tail = stream
+    return [N, expected] + tail
 
 
 def stream_fresh(N, state):
@@ -236,14 +245,14 @@ def stream_fresh(N, state):
         return number, state
     if len(state) != STATE:
         return 2, state
-    return 0, [stream[0]] + stream[1]
+    return 0, state_of(stream)
 
 
-def stream_step(state, X, length):
+def stream_step(state, b, X, length):
     if len(state) != STATE:
         return 2, None, state
-    number, hop, (N, tail) = step((state[0], state[1:]), X, length)
-    return number, hop, [N] + tail
+    number, hop, stream = step((state[0], state[1], state[2:]), b, X, length)
+    return number, hop, state_of(stream)
 
 
 # The listing program.

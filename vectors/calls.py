@@ -8,6 +8,7 @@ from bank import COEFFICIENT_LIMIT, HOPS, LENGTHS, ROUTES, SHORT_LENGTHS, STATE,
 
 rounds = int(sys.argv[1]) if len(sys.argv) > 1 else 25
 rng = random.Random(int(sys.argv[2]) if len(sys.argv) > 2 else 1)
+LAST = 2**32 - 1
 
 
 def line(*fields):
@@ -65,8 +66,27 @@ def state(N):
         tail[at] = rng.choice([limit + 1, -limit - 1, 2**63 - 1, -(2**63)])
     rest = [rng.randint(-(2**63), 2**63 - 1) for _ in range(STORAGE - N // 2)]
     first = rng.choice([0, 48, 144, -1, -N, N + 2**32, -(2**63)]) if case == 2 else N
-    whole = [first] + tail + rest
+    expected = rng.choice([0, 1, rng.randint(0, LAST), LAST])
+    if case == 5:
+        expected = rng.choice([LAST + 1, LAST + 2, 2**63 - 1, -1, -LAST, -(2**32), -(2**63)])
+    whole = [first, expected] + tail + rest
     return whole[:-1] if case == 3 else whole + [7] if case == 4 else whole
+
+
+def near_number(state):
+    """The number that a state expects, or what its low 32 bits are, or another."""
+    low = state[1] % 2**32
+    return rng.choice([low] * 9 + [(low + 1) % 2**32, (low - 1) % 2**32, 0, LAST])
+
+
+def stepped(before, M):
+    """Prints a step, and gives the state to go on with."""
+    number, x, length = near_number(before), coefficients(near(M)), near(M)
+    if rng.randrange(6) == 0:
+        spoil(x)
+    answer = bank.stream_step(before, number, x, length)
+    line("stream_step", before, number, x, length, *answer)
+    return answer[2]
 
 
 for t in range(-1200, 3000):
@@ -81,9 +101,9 @@ for N in SHORT_LENGTHS:
         for k in range(N // 6):
             line("L", N, n, k, bank.L(N, n, k))
 
-# every n up to two beyond the longest, twice the longest, and numbers that pass for 12 or -1 where upper bits are lost; 37 is the length of a state before P4
+# every n up to two beyond the longest, twice the longest, and numbers that pass for 12 or -1 where upper bits are lost; 38 is a state with the tail of N = 72 alone
 for n in [*range(219), 432, 2**32 + 12, 2**63 + 12, 2**64 - 1]:
-    for length in (0, 37, STATE - 1, STATE, STATE + 1):
+    for length in (0, 38, STATE - 1, STATE, STATE + 1):
         before = [rng.randint(-(2**63), 2**63 - 1) for _ in range(length)]
         line("stream_fresh", n, before, *bank.stream_fresh(n, before))
 
@@ -98,19 +118,11 @@ for _ in range(rounds):
             count, length = lengths(H, M)
             x, named = samples(count), near_hops(H)
             line("analyse_recording", route, n, named, x, length, *bank.analyse_recording(route, n, named, x, length))
-        for _ in range(4):
-            before, x, length = state(N), coefficients(near(M)), near(M)
-            if rng.randrange(6) == 0:
-                spoil(x)
-            line("stream_step", before, x, length, *bank.stream_step(before, x, length))
+        for _ in range(3):
+            stepped(stepped(state(N), M), M)
         now = bank.stream_fresh(N, [0] * STATE)[1]
         for _ in range(4):
-            x, length = coefficients(near(M)), near(M)
-            if rng.randrange(6) == 0:
-                spoil(x)
-            number, hop, after = bank.stream_step(now, x, length)
-            line("stream_step", now, x, length, number, hop, after)
-            now = after
+            now = stepped(now, M)
         H = rng.choice([1, 2, 3, 5])
         length, count = lengths(H, M)
         x, named = coefficients(count), near_hops(H)

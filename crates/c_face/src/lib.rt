@@ -1,17 +1,12 @@
-// The calls for C: a slice crosses as a pointer and a length, a stream as a state, which is N and then the tail in one array.
+// The calls for C: a slice crosses as a pointer and a length, a stream as a state. Each hands on to the bank's own call.
 // No call has a requires: any numbers and any lengths may be handed in. include/dapplescree.h says the same in C's words.
 ghost use mathlib.Core.Path.{_≡_};
-ghost use lib.ListN.{length};
 ghost use Rattle.analysis.specs.declared.Route.the-variants.{Direct, Short};
-ghost use Rattle.stream.specs.Synthesis.{storage};
 ghost use Rattle.block_calls.specs.Analysis.{analyseCode, analyseOut};
 ghost use Rattle.recording_calls.specs.Recordings.{recordedCode, recordedOut, playedCode, playedOut};
 ghost use Rattle.page.specs.Page.{pageCode, pageOut};
-ghost use Rattle.c_face.specs.Face.{lengthIn, freshCode, freshState, stepCode, stepState, stepOut};
+ghost use Rattle.state_calls.specs.States.{freshCode, freshState, stepCode, stepState, stepOut};
 use analysis::Route;
-
-// Entries of a state.
-const ENTRIES: usize = 1 + stream::STORAGE;
 
 // One block by the direct route: `filter_bank::analyse`.
 #[no_mangle]
@@ -39,61 +34,28 @@ pub extern "C" fn dapplescree_analyse_short(
     filter_bank::analyse(Route::Short, n, samples, coefficients)
 }
 
-// The length that entry 0 names: a negative one names none, as 0 does.
-fn length_in(entry: i64) -> usize
-    ensures { λ r. ⌜ r ≡ lengthIn entry ⌝ }
-{
-    if entry < 0 {
-        return 0;
-    }
-    entry as usize
-}
-
-// A tail, written to the part of a state behind entry 0.
-fn write_tail(tail: [i64; stream::STORAGE], part: &mut [i64])
-    requires { ⌜ length (now part) ≡ storage ⌝ }
-    ensures { λ _. ⌜ now (part .exit) ≡ tail ⌝ }
-{
-    for i in 0..stream::STORAGE {
-        part[i] = tail[i];
-    }
-}
-
-// A fresh stream, as a state. 1: n is not tabled. 2: the state's length is another. Refused, the state is left alone.
+// A fresh stream, in a state: `filter_bank::fresh_in_place`.
 #[no_mangle]
 pub extern "C" fn dapplescree_stream_fresh(n: usize, state: &mut [i64]) -> u32
-    ensures { λ r. ⌜ (r ≡ freshCode n (now (state .entry))) × (now (state .exit) ≡ freshState n (now (state .entry))) ⌝ }
+    ensures { λ r. ⌜ r ≡ freshCode n (now (state .entry)) ⌝ }
+    ensures { λ _. ⌜ now (state .exit) ≡ freshState n (now (state .entry)) ⌝ }
 {
-    let made = filter_bank::fresh(n);
-    if made.code != 0 {
-        return made.code;
-    }
-    if state.len() != ENTRIES {
-        return 2;
-    }
-    let fresh = made.stream;
-    let tail = fresh.tail;
-    write_tail(tail, &mut state[1..]);
-    state[0] = n as i64;
-    0
+    filter_bank::fresh_in_place(n, state)
 }
 
-// One step on the stream that a state holds, in place: `filter_bank::step_in_place` on the part behind entry 0. 2: the state's length is
-// another, before every other cause. Refused, the state and the hop are left alone; taken, entry 0 stays and the tail is the new one.
+// One step on the stream that a state holds: `filter_bank::step_in_place`.
 #[no_mangle]
 pub extern "C" fn dapplescree_stream_step(
     state: &mut [i64],
+    number: u32,
     coefficients: &[i32],
     hop: &mut [i16],
 ) -> u32
-    ensures { λ r. ⌜ r ≡ stepCode (now (state .entry)) (now (coefficients .entry)) (now (hop .entry)) ⌝ }
-    ensures { λ _. ⌜ now (state .exit) ≡ stepState (now (state .entry)) (now (coefficients .entry)) (now (hop .entry)) ⌝ }
-    ensures { λ _. ⌜ now (hop .exit) ≡ stepOut (now (state .entry)) (now (coefficients .entry)) (now (hop .entry)) ⌝ }
+    ensures { λ r. ⌜ r ≡ stepCode (now (state .entry)) number (now (coefficients .entry)) (now (hop .entry)) ⌝ }
+    ensures { λ _. ⌜ now (state .exit) ≡ stepState (now (state .entry)) number (now (coefficients .entry)) (now (hop .entry)) ⌝ }
+    ensures { λ _. ⌜ now (hop .exit) ≡ stepOut (now (state .entry)) number (now (coefficients .entry)) (now (hop .entry)) ⌝ }
 {
-    if state.len() != ENTRIES {
-        return 2;
-    }
-    filter_bank::step_in_place(length_in(state[0]), &mut state[1..], coefficients, hop)
+    filter_bank::step_in_place(state, number, coefficients, hop)
 }
 
 // A whole recording by the direct route: `filter_bank::analyse_recording`.

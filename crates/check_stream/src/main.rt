@@ -1,14 +1,18 @@
 // Streams through the public calls, step after step, compared with what vectors/stream.py makes from the definitions.
 ghost use Prim.Native.Nat.{_≤_, _<_, _^_};
+use state_calls::ENTRIES;
 use stream::Stream;
 
-// Room for a hop of the longest block and for buffers that are too long.
+// Room for a hop of the longest block, for a state, and for buffers that are too long.
 const ROOM: usize = 112;
 
 // The most samples of a hop that are shown one by one, and the entries of a tail.
 const SHOWN: usize = 40;
 
-const SHOWN_TAIL: usize = 36;
+const SHOWN_TAIL: usize = 18;
+
+// An entry of a tail that is heard in the samples.
+const HEARD: i64 = 1099511627776;
 
 // The ends of a coefficient's range, and one beyond.
 const MOST: i32 = 536870912;
@@ -26,69 +30,113 @@ const ODD: u64 = 2;
 
 const EVERY: u64 = 3;
 
-// Blocks of a long stream, and of a list with and without refused steps.
+// Blocks of a long stream.
 const BLOCKS: usize = 12;
 
-const TWICE: usize = 16;
+// Numbers of blocks in the order in which they are offered: as they follow, shuffled until all are taken, repeated, the first one late, and
+// without block 1.
+const ORDERED: [u32; 16] = [0, 1, 2, 3, 4, 5, 6, 7, 8, 9, 10, 11, 12, 13, 14, 15];
 
-// An entry of a tail is shown, or behind the first ones put into a sum.
-fn show_entry(h: u64, i: usize, v: i64) -> u64
+const SHUFFLED: [u32; 9] = [3, 1, 0, 2, 0, 3, 1, 2, 3];
+
+const REPEATED: [u32; 6] = [0, 0, 1, 1, 0, 2];
+
+const LATE: [u32; 6] = [1, 2, 0, 2, 1, 2];
+
+const MISSING: [u32; 4] = [0, 2, 3, 2];
+
+// Around the last number, which is taken once, and around the first that fills 32 bits.
+const AROUND_LAST: [u32; 5] = [4294967294, 0, 4294967295, 0, 4294967295];
+
+const AROUND_MIDDLE: [u32; 3] = [2147483648, 2147483647, 2147483648];
+
+// An entry is shown, or behind the first ones put into a sum.
+fn show_entry(h: u64, i: usize, most: usize, v: i64) -> u64
     requires { ⌜ h < 2 ^ 32 ⌝ }
     ensures { λ r. ⌜ r < 2 ^ 32 ⌝ }
 {
-    if i < SHOWN_TAIL {
+    if i < most {
         report::field(v);
         return h;
     }
     report::summed(h, v)
 }
 
-fn show_stream(n: usize, tail: &[i64]) {
-    report::word(b"stream");
-    report::count(n);
+// The first entries, the sum of the others, and the line's end.
+fn show_entries(entries: &[i64], most: usize) {
     let mut h = 0;
-    for i in 0..tail.len() {
-        h = show_entry(h, i, tail[i]);
+    for i in 0..entries.len() {
+        h = show_entry(h, i, most, entries[i]);
     }
     report::count(h as usize);
     report::end();
 }
 
-// What is there after a step: its number, the buffer and the stream.
-fn show(code: u32, out: &[i16], n: usize, tail: &[i64]) {
+fn show_stream(s: Stream) {
+    report::word(b"stream");
+    report::count(s.n);
+    report::count(s.expected as usize);
+    let tail = s.tail;
+    show_entries(&tail, SHOWN_TAIL);
+}
+
+// A state with as many entries of its tail.
+fn show_state(state: &[i64]) {
+    report::word(b"state");
+    show_entries(state, SHOWN_TAIL + 2);
+}
+
+// What a step answers: its number, and the buffer.
+fn show_out(code: u32, out: &[i16]) {
     report::word(b"out");
     report::count(code as usize);
     report::samples(out, SHOWN);
-    show_stream(n, tail);
 }
 
-fn told(s: Stream, x: &[i32], out: &mut [i16]) -> Stream {
-    let r = filter_bank::step(s, x, out);
+fn told(s: Stream, number: u32, x: &[i32], out: &mut [i16]) -> Stream {
+    let r = filter_bank::step(s, number, x, out);
     let next = r.stream;
-    let tail = next.tail;
-    show(r.code, out, next.n, &tail);
+    show_out(r.code, out);
+    show_stream(next);
     next
 }
 
-// A step on the first m entries of x and a buffer of l marks.
+// A step on the first m entries of x, under a number, and a buffer of l marks.
+fn offer_as(s: Stream, number: u32, x: [i32; ROOM], m: usize, l: usize) -> Stream
+    requires { ⌜ (m ≤ 112) × (l ≤ 112) ⌝ }
+{
+    let mut out = [12345; ROOM];
+    told(s, number, &x[..m], &mut out[..l])
+}
+
+// The number that a stream expects. 0 where it expects none.
+fn due(s: Stream) -> u32 {
+    let expected = s.expected;
+    if expected < 4294967296 {
+        return expected as u32;
+    }
+    0
+}
+
+// A step under the number that the stream expects.
 fn offer(s: Stream, x: [i32; ROOM], m: usize, l: usize) -> Stream
     requires { ⌜ (m ≤ 112) × (l ≤ 112) ⌝ }
 {
-    let mut out = [12345; ROOM];
-    told(s, &x[..m], &mut out[..l])
+    offer_as(s, due(s), x, m, l)
 }
 
-// The same two in place.
-fn told_in_place(n: usize, tail: &mut [i64], x: &[i32], out: &mut [i16]) {
-    let code = filter_bank::step_in_place(n, tail, x, out);
-    show(code, out, n, tail);
+// The steps under a number, in place.
+fn told_in_place(state: &mut [i64], number: u32, x: &[i32], out: &mut [i16]) {
+    let code = filter_bank::step_in_place(state, number, x, out);
+    show_out(code, out);
+    show_state(state);
 }
 
-fn offer_in_place(n: usize, tail: &mut [i64], x: [i32; ROOM], m: usize, l: usize)
+fn offer_in_place(state: &mut [i64], number: u32, x: [i32; ROOM], m: usize, l: usize)
     requires { ⌜ (m ≤ 112) × (l ≤ 112) ⌝ }
 {
     let mut out = [12345; ROOM];
-    told_in_place(n, tail, &x[..m], &mut out[..l]);
+    told_in_place(state, number, &x[..m], &mut out[..l]);
 }
 
 // Noise of a seed and a span.
@@ -177,18 +225,30 @@ fn space(m: usize, kind: usize) -> usize
     m
 }
 
+fn refused_as(s: Stream, number: u32, x: [i32; ROOM], m: usize, kind: usize) -> Stream
+    requires { ⌜ (1 ≤ m) × (m ≤ 108) ⌝ }
+{
+    offer_as(
+        s,
+        number,
+        spoilt(x, m, kind),
+        entries(m, kind),
+        space(m, kind),
+    )
+}
+
 fn refused(s: Stream, x: [i32; ROOM], m: usize, kind: usize) -> Stream
     requires { ⌜ (1 ≤ m) × (m ≤ 108) ⌝ }
 {
-    offer(s, spoilt(x, m, kind), entries(m, kind), space(m, kind))
+    refused_as(s, due(s), x, m, kind)
 }
 
-fn refused_in_place(n: usize, tail: &mut [i64], x: [i32; ROOM], m: usize, kind: usize)
+fn refused_in_place(state: &mut [i64], number: u32, x: [i32; ROOM], m: usize, kind: usize)
     requires { ⌜ (1 ≤ m) × (m ≤ 108) ⌝ }
 {
     offer_in_place(
-        n,
-        tail,
+        state,
+        number,
         spoilt(x, m, kind),
         entries(m, kind),
         space(m, kind),
@@ -208,19 +268,143 @@ fn long(n: usize, m: usize)
     }
 }
 
-// The same blocks in place, with a refused step before each of them, and by value: every pair of answers is the same.
-fn beside(n: usize, m: usize)
+// The block of a number: the same whenever it comes.
+fn block(n: usize, number: u32) -> [i32; ROOM]
+    requires { ⌜ n ≤ 216 ⌝ }
+{
+    let b = number as usize % 100;
+    noise((200 * n + b) as u64, span(b))
+}
+
+// The kind of damage at a place of a list: every kind meets every span.
+fn damage(i: usize) -> usize {
+    (i % 4 + i / 4 % 4) % 4
+}
+
+// Blocks in an order, in place, with a damaged one under the same number before each of them, and by value: every pair of answers is the same.
+fn beside(n: usize, m: usize, s: Stream, state: &mut [i64], order: &[u32])
+    requires { ⌜ (n ≤ 216) × (1 ≤ m) × (m ≤ 108) ⌝ }
+{
+    let mut t = s;
+    for i in 0..order.len() {
+        let number = order[i];
+        let x = block(n, number);
+        refused_in_place(state, number, x, m, damage(i));
+        offer_in_place(state, number, x, m, m);
+        t = offer_as(t, number, x, m, m);
+    }
+}
+
+fn fresh_state(n: usize) -> [i64; ENTRIES] {
+    let mut state = [7; ENTRIES];
+    filter_bank::fresh_in_place(n, &mut state);
+    state
+}
+
+// The same blocks to a fresh stream.
+fn fresh_beside(n: usize, m: usize, order: &[u32])
     requires { ⌜ (n ≤ 216) × (1 ≤ m) × (m ≤ 108) ⌝ }
 {
     let made = filter_bank::fresh(n);
-    let mut t = made.stream;
-    let mut tail = [0; stream::STORAGE];
-    for b in 0..TWICE {
-        let x = noise((200 * n + b) as u64, span(b));
-        refused_in_place(n, &mut tail, x, m, b / 4);
-        offer_in_place(n, &mut tail, x, m, m);
-        t = offer(t, x, m, m);
+    let mut state = fresh_state(n);
+    beside(n, m, made.stream, &mut state, order);
+}
+
+// A forged stream, all its tail entries v.
+fn alike(n: usize, expected: u64, v: i64) -> Stream {
+    Stream {
+        n: n,
+        expected: expected,
+        tail: [v; stream::STORAGE],
     }
+}
+
+// And to a fresh one that is made to expect another number.
+fn forged_beside(n: usize, m: usize, expected: u32, order: &[u32])
+    requires { ⌜ (n ≤ 216) × (1 ≤ m) × (m ≤ 108) ⌝ }
+{
+    let s = alike(n, expected as u64, 0);
+    let mut state = fresh_state(n);
+    state[1] = expected as i64;
+    beside(n, m, s, &mut state, order);
+}
+
+fn orders(n: usize, m: usize)
+    requires { ⌜ (n ≤ 216) × (1 ≤ m) × (m ≤ 108) ⌝ }
+{
+    fresh_beside(n, m, &ORDERED);
+    fresh_beside(n, m, &SHUFFLED);
+    fresh_beside(n, m, &REPEATED);
+    fresh_beside(n, m, &LATE);
+    fresh_beside(n, m, &MISSING);
+    forged_beside(n, m, 4294967295, &AROUND_LAST);
+    forged_beside(n, m, 2147483647, &AROUND_MIDDLE);
+}
+
+// Damaged blocks under numbers that the stream does not expect, one too low or one too high: 7 before 2 and 3.
+fn unexpected(n: usize, m: usize)
+    requires { ⌜ (1 ≤ m) × (m ≤ 108) ⌝ }
+{
+    let x = noise(13, 1000000);
+    let made = filter_bank::fresh(n);
+    let s1 = offer(made.stream, x, m, m);
+    let s2 = refused_as(s1, 0, x, m, 0);
+    let s3 = refused_as(s2, 2, x, m, 1);
+    let s4 = refused_as(s3, 0, x, m, 2);
+    let s5 = refused_as(s4, 2, x, m, 3);
+    offer(s5, x, m, m);
+}
+
+// A state with a tail of v, and entries that are too many.
+fn forged_state(n: i64, expected: i64, v: i64) -> [i64; ROOM] {
+    let mut state = [v; ROOM];
+    state[0] = n;
+    state[1] = expected;
+    state
+}
+
+// One step in place on a quiet block and the first `size` entries of a state.
+fn quiet_in_place(held: [i64; ROOM], size: usize, number: u32, m: usize)
+    requires { ⌜ (size ≤ 112) × (m ≤ 108) ⌝ }
+{
+    let mut state = held;
+    offer_in_place(&mut state[..size], number, noise(9, 1000000), m, m);
+}
+
+// Such a step on a forged state.
+fn sized(n: i64, expected: i64, v: i64, size: usize, number: u32, m: usize)
+    requires { ⌜ (size ≤ 112) × (m ≤ 108) ⌝ }
+{
+    quiet_in_place(forged_state(n, expected, v), size, number, m);
+}
+
+// A forged expected number that no block has, and the number that is left of it in 32 bits.
+fn stray(n: usize, m: usize, expected: u64, number: u32)
+    requires { ⌜ m ≤ 108 ⌝ }
+{
+    offer_as(alike(n, expected, HEARD), number, noise(9, 1000000), m, m);
+}
+
+fn strays(n: usize, m: usize)
+    requires { ⌜ m ≤ 108 ⌝ }
+{
+    stray(n, m, 4294967296, 0);
+    stray(n, m, 4294967301, 5);
+    stray(n, m, 9223372036854775808, 0);
+    stray(n, m, 18446744073709551615, 4294967295);
+}
+
+// In place it can be negative: the number is then what is left of it in 32 bits, or its size.
+fn strays_in_place(n: i64, m: usize)
+    requires { ⌜ m ≤ 108 ⌝ }
+{
+    sized(n, 4294967296, HEARD, ENTRIES, 0, m);
+    sized(n, 4294967301, HEARD, ENTRIES, 5, m);
+    sized(n, 9223372036854775807, HEARD, ENTRIES, 4294967295, m);
+    sized(n, -1, HEARD, ENTRIES, 4294967295, m);
+    sized(n, -5, HEARD, ENTRIES, 5, m);
+    sized(n, -4294967296, HEARD, ENTRIES, 0, m);
+    sized(n, -9223372036854775808, HEARD, ENTRIES, 0, m);
 }
 
 // Buffers of another size than m, one of them or both.
@@ -304,39 +488,56 @@ fn limits(n: usize, m: usize)
     limit(n, m, -2147483648);
 }
 
-// A forged stream, all its tail entries `rest` but entry i, which is v: one step on a quiet block.
+// A forged stream that expects block 5, all its tail entries `rest` but entry i, which is v: one step on a quiet block.
 fn forged(n: usize, m: usize, rest: i64, i: usize, v: i64)
     requires { ⌜ (m ≤ 108) × (i < 108) ⌝ }
 {
     let mut tail = [rest; stream::STORAGE];
     tail[i] = v;
-    let s = Stream { n: n, tail: tail };
+    let s = Stream {
+        n: n,
+        expected: 5,
+        tail: tail,
+    };
     offer(s, noise(9, 1000000), m, m);
 }
 
-// A forged stream is refused with 4 before any length and any coefficient is looked at.
+// The same in place.
+fn forged_in_place(n: i64, m: usize, rest: i64, i: usize, v: i64)
+    requires { ⌜ (m ≤ 108) × (i < 108) ⌝ }
+{
+    let mut state = forged_state(n, 5, rest);
+    state[2 + i] = v;
+    quiet_in_place(state, ENTRIES, 5, m);
+}
+
+// A forged stream is refused with 4 before any length, any coefficient and the number is looked at, even where it expects none.
 fn forged_first(n: usize, m: usize, v: i64)
     requires { ⌜ m ≤ 108 ⌝ }
 {
-    let s = Stream {
-        n: n,
-        tail: [v; stream::STORAGE],
-    };
     let x = loud(0);
-    let s1 = offer(s, x, 0, m);
+    let s1 = offer(alike(n, 5, v), x, 0, m);
     let s2 = offer(s1, with(x, 0, ABOVE), m, m);
-    offer(s2, with(x, 0, BELOW), m, 0);
+    let s3 = offer(s2, with(x, 0, BELOW), m, 0);
+    offer_as(s3, 6, x, m, m);
+    offer_as(alike(n, 4294967296, v), 0, x, m, m);
+}
+
+// In place too, and a state of another length is 2 before that.
+fn first_in_place(n: i64, m: usize, v: i64)
+    requires { ⌜ m ≤ 108 ⌝ }
+{
+    sized(n, 5, v, ENTRIES, 5, m);
+    sized(n, 5, v, ENTRIES, 6, m);
+    sized(n, -1, v, ENTRIES, 4294967295, m);
+    sized(n, 5, v, ENTRIES - 1, 6, m);
 }
 
 // A whole tail of v, and a block that drives one place as far as it goes.
 fn driven(n: usize, m: usize, v: i64, signs: u64)
     requires { ⌜ m ≤ 108 ⌝ }
 {
-    let s = Stream {
-        n: n,
-        tail: [v; stream::STORAGE],
-    };
-    offer(s, loud(signs), m, m);
+    offer(alike(n, 5, v), loud(signs), m, m);
 }
 
 // A tail entry beyond the limit at every place.
@@ -350,7 +551,7 @@ fn tail_places(n: usize, m: usize, above: i64, below: i64)
 }
 
 // Tail entries at the limit and one beyond, in the first place and in the last.
-fn tails(n: usize, m: usize, most: i64, above: i64, least: i64, below: i64)
+fn edges(n: usize, m: usize, most: i64, above: i64, least: i64, below: i64)
     requires { ⌜ (1 ≤ m) × (m ≤ 108) ⌝ }
 {
     forged(n, m, most, 0, most);
@@ -366,7 +567,26 @@ fn tails(n: usize, m: usize, most: i64, above: i64, least: i64, below: i64)
     forged_first(n, m, below);
     driven(n, m, most, ODD);
     driven(n, m, least, EVEN);
+}
+
+fn edges_in_place(n: i64, m: usize, most: i64, above: i64, least: i64, below: i64)
+    requires { ⌜ (1 ≤ m) × (m ≤ 108) ⌝ }
+{
+    forged_in_place(n, m, most, m - 1, least);
+    forged_in_place(n, m, 0, 0, above);
+    forged_in_place(n, m, 0, 0, below);
+    forged_in_place(n, m, 0, m - 1, above);
+    forged_in_place(n, m, 0, m - 1, below);
+    first_in_place(n, m, above);
+    first_in_place(n, m, below);
+}
+
+fn tails(n: usize, m: usize, most: i64, above: i64, least: i64, below: i64)
+    requires { ⌜ (n ≤ 216) × (1 ≤ m) × (m ≤ 108) ⌝ }
+{
+    edges(n, m, most, above, least, below);
     tail_places(n, m, above, below);
+    edges_in_place(n as i64, m, most, above, least, below);
 }
 
 // A tail of zeros whose entries beyond M are v.
@@ -385,7 +605,11 @@ fn kept(n: usize, m: usize, v: i64)
     requires { ⌜ (1 ≤ m) × (m ≤ 108) ⌝ }
 {
     let tail = rubbish(m, v);
-    let s = Stream { n: n, tail: tail };
+    let s = Stream {
+        n: n,
+        expected: 5,
+        tail: tail,
+    };
     let s1 = offer(s, noise(9, 1000000), m, m);
     let s2 = refused(s1, noise(10, 1000000), m, 2);
     let s3 = offer(s2, loud(ODD), m, m);
@@ -393,66 +617,110 @@ fn kept(n: usize, m: usize, v: i64)
     offer(s4, noise(12, 1000000), m, m);
 }
 
-// Rubbish beyond M: kept, and never a cause.
-fn beyond(n: usize, m: usize)
-    requires { ⌜ (1 ≤ m) × (m < 108) ⌝ }
+// Rubbish v beyond M, at place i and at all of them: kept, and never a cause.
+fn beyond(n: usize, m: usize, i: usize, v: i64)
+    requires { ⌜ (n ≤ 216) × (1 ≤ m) × (m ≤ 108) × (i < 108) ⌝ }
 {
-    forged(n, m, 0, m, -9223372036854775808);
-    forged(n, m, 0, stream::STORAGE - 1, 9223372036854775807);
-    kept(n, m, -9223372036854775808);
-    kept(n, m, 9223372036854775807);
+    forged(n, m, 0, i, v);
+    forged_in_place(n as i64, m, 0, i, v);
+    kept(n, m, v);
 }
 
-// A tail of `size` entries in place: taken where that is a stream's storage.
-fn tail_size(n: usize, m: usize, size: usize)
-    requires { ⌜ (m ≤ 108) × (size ≤ 112) ⌝ }
+// The first place beyond M and the last.
+fn rubbish_beyond(n: usize, m: usize)
+    requires { ⌜ (n ≤ 216) × (1 ≤ m) × (m < 108) ⌝ }
 {
-    let mut tail = [7; ROOM];
-    offer_in_place(n, &mut tail[..size], noise(9, 1000000), m, m);
+    beyond(n, m, m, -9223372036854775808);
+    beyond(n, m, stream::STORAGE - 1, 9223372036854775807);
 }
 
-// No tail, one of a hop, one of a hop at N = 72, one entry fewer than the storage and one more, and the storage.
-fn tail_sizes(n: usize, m: usize)
+// No entry, N alone, a state with a tail of one hop, one entry fewer than a state has and one more, and a state, which is taken.
+fn state_sizes(n: i64, m: usize)
     requires { ⌜ m ≤ 108 ⌝ }
 {
-    tail_size(n, m, 0);
-    tail_size(n, m, m);
-    tail_size(n, m, 36);
-    tail_size(n, m, stream::STORAGE - 1);
-    tail_size(n, m, stream::STORAGE + 1);
-    tail_size(n, m, stream::STORAGE);
+    sized(n, 5, HEARD, 0, 5, m);
+    sized(n, 5, HEARD, 1, 5, m);
+    sized(n, 5, HEARD, m + 2, 5, m);
+    sized(n, 5, HEARD, ENTRIES - 1, 5, m);
+    sized(n, 5, HEARD, ENTRIES + 1, 5, m);
+    sized(n, 5, HEARD, ENTRIES, 5, m);
 }
 
 fn length(n: usize, m: usize)
     requires { ⌜ (n ≤ 216) × (1 ≤ m) × (m ≤ 108) ⌝ }
 {
     long(n, m);
-    beside(n, m);
+    orders(n, m);
+    unexpected(n, m);
+    strays(n, m);
+    strays_in_place(n as i64, m);
     sizes(n, m);
     extremes(n, m);
     limits(n, m);
     limit_places(n, m);
-    tail_sizes(n, m);
+    state_sizes(n as i64, m);
+}
+
+fn show_made(n: usize, code: u32) {
+    report::word(b"fresh");
+    report::count(n);
+    report::count(code as usize);
+    report::end();
 }
 
 fn made(n: usize) {
     let r = filter_bank::fresh(n);
-    report::word(b"fresh");
-    report::count(n);
-    report::count(r.code as usize);
-    report::end();
-    let s = r.stream;
-    let tail = s.tail;
-    show_stream(s.n, &tail);
+    show_made(n, r.code);
+    show_stream(r.stream);
+}
+
+fn told_made(n: usize, state: &mut [i64]) {
+    let code = filter_bank::fresh_in_place(n, state);
+    show_made(n, code);
+    show_state(state);
+}
+
+// The same in place, in a buffer of `size` entries that hold something else.
+fn made_in_place(n: usize, size: usize)
+    requires { ⌜ size ≤ 112 ⌝ }
+{
+    let mut state = [7; ROOM];
+    told_made(n, &mut state[..size]);
+}
+
+// Streams of a length that is tabled.
+fn tabled(n: usize) {
+    made(n);
+    made_in_place(n, 0);
+    made_in_place(n, 1);
+    made_in_place(n, ENTRIES - 1);
+    made_in_place(n, ENTRIES + 1);
+    made_in_place(n, ENTRIES);
 }
 
 // Streams of a length that is not tabled.
 fn untabled(n: usize) {
     made(n);
+    made_in_place(n, 0);
+    made_in_place(n, ENTRIES);
     forged(n, 0, 0, 0, 0);
     forged(n, 18, 0, 3, 5);
     forged_first(n, 24, 0);
-    tail_size(n, 18, 36);
+}
+
+// States of such a length, of one that is 12 in 32 bits, and of negative ones.
+fn untabled_in_place() {
+    first_in_place(0, 18, 0);
+    first_in_place(11, 18, 0);
+    first_in_place(48, 18, 0);
+    first_in_place(107, 18, 0);
+    first_in_place(144, 18, 0);
+    first_in_place(217, 18, 0);
+    first_in_place(432, 18, 0);
+    first_in_place(4294967308, 18, 0);
+    first_in_place(-1, 18, 0);
+    first_in_place(-12, 18, 0);
+    first_in_place(-9223372036854775808, 18, 0);
 }
 
 // Tails at the limit of a length: M times 2^55.
@@ -523,11 +791,7 @@ fn half_value(n: usize, m: usize, c: i32)
 fn half_sample(n: usize, m: usize, t: i64)
     requires { ⌜ m ≤ 108 ⌝ }
 {
-    let s = Stream {
-        n: n,
-        tail: [t; stream::STORAGE],
-    };
-    offer(s, noise(0, 0), m, m);
+    offer(alike(n, 5, t), noise(0, 0), m, m);
 }
 
 fn half_values() {
@@ -561,12 +825,12 @@ fn half_samples() {
 }
 
 fn main() {
-    made(12);
-    made(24);
-    made(36);
-    made(72);
-    made(108);
-    made(216);
+    tabled(12);
+    tabled(24);
+    tabled(36);
+    tabled(72);
+    tabled(108);
+    tabled(216);
     untabled(0);
     untabled(11);
     untabled(48);
@@ -575,6 +839,7 @@ fn main() {
     untabled(144);
     untabled(217);
     untabled(432);
+    untabled_in_place();
     length(12, 6);
     length(24, 12);
     length(36, 18);
@@ -583,11 +848,11 @@ fn main() {
     length(216, 108);
     short_tails();
     long_tails();
-    beyond(12, 6);
-    beyond(24, 12);
-    beyond(36, 18);
-    beyond(72, 36);
-    beyond(108, 54);
+    rubbish_beyond(12, 6);
+    rubbish_beyond(24, 12);
+    rubbish_beyond(36, 18);
+    rubbish_beyond(72, 36);
+    rubbish_beyond(108, 54);
     half_values();
     half_samples();
 }

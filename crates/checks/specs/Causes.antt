@@ -1,5 +1,5 @@
--- The number that a call returns, by its causes: definitions. Document 01, 'When the bank declines'. A call's causes are a list, a line for each in the
--- document's order.
+-- The number that a call returns, by its causes: definitions. Document 01, 'When the bank declines', and document 02. A call's causes are a list, a line for each
+-- in the documents' order.
 use mathlib.Core.Path.{_≡_}
 use mathlib.Core.Bool.{Bool, true, false, cond}
 use mathlib.Core.List.{List, [], _∷_}

@@ -1,13 +1,13 @@
--- Laws of the public calls' numbers: `demand-1`, that every call answers as document 01's table of causes says.
+-- Laws of the public calls' numbers: `demand-1`, that every call answers as the documents' tables of causes say.
 use mathlib.Core.Path.{_≡_, refl, sym, ap, _∙_}
 use mathlib.Core.Logic.{_≢_}
 use mathlib.Core.Bool.{Bool, true, false, cond}
-use mathlib.Core.List.{List, _∷_, _++_}
-use Prim.Native.Nat.{ℕ, _+_, _*_, _/_}
+use mathlib.Core.List.{List}
+use Prim.Native.Nat.{ℕ, _+_, _*_, _/_, _^_, _<_}
 use native.Mathlib.Omega.{arith}
 use native.Mathlib.Decide.{ℕ-discrete}
 use lib.Dec.{eqb}
-use lib.ListN.{length, take, replicate}
+use lib.ListN.{length}
 use lib.IntN.{ℤ, pos, natAbs}
 use lib.Signed.{_<ℤ_, ltZ}
 use borrow.Author.Tests.{le-leb, eq-eqb, ne-eqb}
@@ -25,16 +25,16 @@ use Rattle.checks.specs.Causes.First.{none, stop, pass}
 use Rattle.checks.specs.CauseLaws.{first-is, same, differs, beside}
 use Rattle.block_calls.specs.Analysis.{analyseCauses, analyseCode, analyseOut}
 use Rattle.checks.specs.Limits.{within, tailLimit, coefficientLimit, inRange, hopLimit, counted}
-use Rattle.stream_calls.specs.Streams.{fresh, sound, stepCauses, stepCode, step, placeCauses, placeCode, placeTail, placeOut}
+use Rattle.stream_calls.specs.Streams.{fresh, sound, stepCauses, stepCode, step}
 use Rattle.checks.specs.LimitLaws.{range-small, counted-some, counted-most}
-use Rattle.stream_calls.specs.StreamLaws.{sound-tabled, sound-bounded, place-code, place-out, place-tail}
+use Rattle.stream_calls.specs.StreamLaws.{sound-tabled, sound-bounded}
 use Rattle.recording_calls.specs.Recordings.{recordedCauses, recordedCode, recordedOut, playedCauses, playedCode, playedOut, shaped, innerOf}
 use Rattle.page.specs.Page.{pageOf, pageCauses, pageCode, pageOut}
-use Rattle.c_face.specs.Face as F
-use Rattle.c_face.specs.StateLaws.{fresh-holds, fresh-long, same-code, same-out, same-stream, same-long}
+use Rattle.state_calls.specs.States as F
+use Rattle.state_calls.specs.StateLaws.{fresh-holds, fresh-long, same-code, same-out, same-stream, same-long}
 use Rattle.demands.specs.ListingAnswerLaws.{listing-answers}
-use Rattle.demands.specs.StepLaws.{abs-within, sound-of, code-other, refused-stream, refused-buffer}
-use Rattle.demands.specs.Demands.{Tabled, Counted, InRange, SoundTail, AnalyseAnswers, FreshAnswers, StepAnswers, streamOf, PlaceAnswers, RecordedAnswers, PlayedAnswers, InnerAnswers, PageAnswers, StateFreshAnswers, StateStepAnswers, Demand-1}
+use Rattle.demands.specs.StepLaws.{abs-within, sound-of, code-other, refused-stream, refused-buffer, last-number}
+use Rattle.demands.specs.Demands.{Tabled, Counted, InRange, SoundTail, AnalyseAnswers, FreshAnswers, StepAnswers, RecordedAnswers, PlayedAnswers, InnerAnswers, PageAnswers, StateFreshAnswers, StateStepAnswers, Demand-1}
 
 -- ---- the causes as tests
 module _ (H : ℕ) where
@@ -95,34 +95,24 @@ fresh-answers N =
     let no : Made = record { code = 1; stream = S.fresh 0 } in
     record { one = λ n. cond-no (tabled N) yes no n; taken = λ t. cond-yes (tabled N) yes no t }
 
-step-answers : (s : Stream) (x out : List ℤ) → StepAnswers s x out
+step-answers : (s : Stream) (number : ℕ) (x out : List ℤ) → StepAnswers s number x out
 unfolding stepCauses stepCode step
-step-answers s x out =
+step-answers s number x out =
     let M = s .n / 2 in
-    let cs = stepCauses s x out in
+    let cs = stepCauses s number x out in
     record {
       four-n = λ n. first-is cs (stop (sounds-not-n s n));
       four-tail = λ n. first-is cs (stop (sounds-not-tail s n));
-      two-in = λ t h n. first-is cs (pass (sounds s t h) (differs n));
-      two-out = λ t h n. first-is cs (pass (sounds s t h) (beside (differs n)));
-      three = λ t h l m n. first-is cs (pass (sounds s t h) (same l (same m (stop (ranges-not x M l n)))));
-      taken = λ t h l m r. first-is cs (pass (sounds s t h) (same l (same m (pass (ranges x M l r) none))));
+      seven = λ t h n. first-is cs (pass (sounds s t h) (differs n));
+      seven-none = λ t h l m. first-is cs (pass (sounds s t h) (differs (λ (e : number ≡ s .expected). omega (arith, e, l, m))));
+      two-in = λ t h e n. first-is cs (pass (sounds s t h) (same e (differs n)));
+      two-out = λ t h e n. first-is cs (pass (sounds s t h) (same e (beside (differs n))));
+      three = λ t h e l m n. first-is cs (pass (sounds s t h) (same e (same l (same m (stop (ranges-not x M l n))))));
+      taken = λ t h e l m r. first-is cs (pass (sounds s t h) (same e (same l (same m (pass (ranges x M l r) none)))));
       code = refl;
-      kept-stream = λ r. refused-stream s x out r;
-      kept = λ r. refused-buffer s x out r;
+      kept-stream = λ r. refused-stream s number x out r;
+      kept = λ r. refused-buffer s number x out r;
     }
-
-place-answers : (N : ℕ) (tail x out : List ℤ) → PlaceAnswers N tail x out
-unfolding placeCauses placeCode placeTail placeOut
-place-answers N tail x out = record {
-  four-n = λ n. first-is (placeCauses N tail x out) (stop (is-false n));
-  two-tail = λ t n. first-is (placeCauses N tail x out) (pass (is-true t) (differs n));
-  same = λ e. place-code N tail x out e;
-  same-tail = λ e. place-tail N tail x out e;
-  same-out = λ e. place-out N tail x out e;
-  kept-tail = λ r. code-other (placeCode N tail x out) (next (streamOf N tail) x .tail) tail r;
-  kept = λ r. code-other (placeCode N tail x out) (hop (streamOf N tail) x) out r;
-}
 
 recorded-answers : (route : Route) (N H : ℕ) (x out : List ℤ) → RecordedAnswers route N H x out
 unfolding recordedCauses recordedCode recordedOut
@@ -190,50 +180,58 @@ state-fresh-answers N state =
       taken = λ t e. first-is cs (pass (is-true t) (same e none));
       holds = fresh-holds N state;
       long = fresh-long N state;
-      kept = λ r. code-other (F.freshCode N state) (pos N ∷ replicate S.storage (pos 0)) state r;
+      kept = λ r. code-other (F.freshCode N state) (F.stateOf (S.fresh N)) state r;
     }
 
--- an entry 0 below zero names no tabled length
-negative : (z : ℤ) → z <ℤ pos 0 → F.lengthIn z ≡ 0
-unfolding F.lengthIn
-negative z h = cond-yes (ltZ z (pos 0)) 0 (natAbs z) (h .lt)
+-- what an entry below zero stands for
+negative : (z : ℤ) (other : ℕ) → z <ℤ pos 0 → F.numberIn z other ≡ other
+unfolding F.numberIn
+negative z other h = cond-yes (ltZ z (pos 0)) other (natAbs z) (h .lt)
 
 no-length : ¬ Tabled 0
 unfolding tabled every lengths
 no-length t = t
 
-module _ (state x out : List ℤ) where
-  kept-step : F.stepCode state x out ≢ 0 → F.stepState state x out ≡ state
+module _ (state : List ℤ) (number : ℕ) (x out : List ℤ) where
+  kept-step : F.stepCode state number x out ≢ 0 → F.stepState state number x out ≡ state
   unfolding F.stepState
-  kept-step r = code-other (F.stepCode state x out) (take 1 state ++ next (F.streamIn state) x .tail) state r
+  kept-step r = code-other (F.stepCode state number x out) (F.stateOf (next (F.streamIn state) x)) state r
 
-  state-2 : length state ≢ F.entries → F.stepCode state x out ≡ 2
+  kept-out : F.stepCode state number x out ≢ 0 → F.stepOut state number x out ≡ out
+  unfolding F.stepOut
+  kept-out r = code-other (F.stepCode state number x out) (hop (F.streamIn state) x) out r
+
+  state-2 : length state ≢ F.entries → F.stepCode state number x out ≡ 2
   unfolding F.stepCauses F.stepCode
-  state-2 n = first-is (F.stepCauses state x out) (differs n)
+  state-2 n = first-is (F.stepCauses state number x out) (differs n)
 
-  long-step : Dec (length state ≡ F.entries) → length (F.stepState state x out) ≡ length state
-  long-step (yes e) = same-long state x out e ∙ sym e
+  long-step : Dec (length state ≡ F.entries) → length (F.stepState state number x out) ≡ length state
+  long-step (yes e) = same-long state number x out e ∙ sym e
   long-step (no n) = ap length (kept-step (λ z. let h : _≡_ {A = ℕ} 2 0 = sym (state-2 n) ∙ z in omega arith))
 
-  kept-out : Dec (length state ≡ F.entries) → F.stepCode state x out ≢ 0 → F.stepOut state x out ≡ out
-  unfolding F.stepOut
-  kept-out (yes e) r = same-out state x out e ∙ step-answers (F.streamIn state) x out .kept (λ z. r (same-code state x out e ∙ z))
-  kept-out (no n) r = rw (ne-eqb (length state) F.entries n)
+  module _ (e : length state ≡ F.entries) where
+    abbrev by-value : StepAnswers (F.streamIn state) number x out
+    by-value = step-answers (F.streamIn state) number x out
 
-  negative-4 : length state ≡ F.entries → at state 0 <ℤ pos 0 → F.stepCode state x out ≡ 4
-  unfolding F.streamIn
-  negative-4 e h = same-code state x out e ∙ step-answers (F.streamIn state) x out .four-n (rw (negative (at state 0) h) no-length)
+    negative-4 : at state 0 <ℤ pos 0 → F.stepCode state number x out ≡ 4
+    unfolding F.streamIn
+    negative-4 h = same-code state number x out e ∙ by-value .four-n (rw (negative (at state 0) 0 h) no-length)
 
-  state-step-answers : StateStepAnswers state x out
+    negative-7 : Tabled (F.streamIn state .n) → SoundTail (F.streamIn state) → number < 2 ^ 32 → at state 1 <ℤ pos 0 → F.stepCode state number x out ≡ 7
+    unfolding F.streamIn
+    negative-7 t h less n = same-code state number x out e ∙ by-value .seven-none t h less (rw (negative (at state 1) F.none n) (omega arith))
+
+  state-step-answers : StateStepAnswers state number x out
   state-step-answers = record {
     two-state = state-2;
-    same = same-code state x out;
-    same-stream = same-stream state x out;
-    same-out = same-out state x out;
+    same = same-code state number x out;
+    same-stream = same-stream state number x out;
+    same-out = same-out state number x out;
     four-negative = negative-4;
+    seven-negative = negative-7;
     long = long-step (ℕ-discrete (length state) F.entries);
     kept-state = kept-step;
-    kept = kept-out (ℕ-discrete (length state) F.entries);
+    kept = kept-out;
   }
 
 pub demand-1 : Demand-1
@@ -241,7 +239,7 @@ demand-1 = record {
   analyse = analyse-answers;
   made = fresh-answers;
   stepped = step-answers;
-  placed = place-answers;
+  last-number = last-number;
   recorded = recorded-answers;
   played = played-answers;
   inner = inner-answers;

@@ -26,7 +26,7 @@ use Rattle.split.specs.ShortStepLaws.{short-ext}
 use Rattle.stream.specs.declared.Stream.{Stream}
 use Rattle.stream.specs.Steps.{hop, streamAfter, returned}
 use Rattle.stream.specs.StepLaws.{rising-size, falling-size}
-use Rattle.stream.specs.NextLaws.{hop-long, hop-at, next-n, next-at, next-kept, returned-long}
+use Rattle.stream.specs.NextLaws.{hop-long, hop-at, next-n, next-expected, next-at, next-kept, stream-expected, returned-long}
 use Rattle.analysis.specs.declared.Route.{Route}
 use Rattle.analysis.specs.declared.Route.the-variants.{Direct, Short}
 use Rattle.analysis.specs.Analysis.{offered, coefficients}
@@ -122,13 +122,14 @@ module _ (N : ℕ) (x out : List ℤ) (k : ℕ) (p : k < N / 2) where
   analysed = record { direct = direct-is; short = short-is; near = short-near; exact = short-exact }
 
 -- ---- one step
-stepped-on : (s : Stream) (x out : List ℤ) → stepCode s x out ≡ 0 → Stepped-on s x out
-stepped-on s x out e = record {
-  long = rw (taken-buffer s x out e) (hop-long (s .n) s refl x);
-  hop = λ n p. rw (taken-buffer s x out e) (hop-at (s .n) s refl x n p ∙ ap (λ (z : ℤ). clamp (rnd (at (s .tail) n +ℤ z) (s .n * 2 ^ 30))) (V-is (s .n) x n));
-  n-kept = rw (taken-stream s x out e) (next-n (s .n) s refl x);
-  tail = λ n p. rw (taken-stream s x out e) (next-at (s .n) s refl x n p ∙ V-is (s .n) x (s .n / 2 + n));
-  storage = rw (taken-stream s x out e) (next-kept (s .n) s refl x);
+stepped-on : (s : Stream) (number : ℕ) (x out : List ℤ) → stepCode s number x out ≡ 0 → Stepped-on s number x out
+stepped-on s number x out e = record {
+  long = rw (taken-buffer s number x out e) (hop-long (s .n) s refl x);
+  hop = λ n p. rw (taken-buffer s number x out e) (hop-at (s .n) s refl x n p ∙ ap (λ (z : ℤ). clamp (rnd (at (s .tail) n +ℤ z) (s .n * 2 ^ 30))) (V-is (s .n) x n));
+  n-kept = rw (taken-stream s number x out e) (next-n (s .n) s refl x);
+  counted = rw (taken-stream s number x out e) (next-expected (s .n) s refl x);
+  tail = λ n p. rw (taken-stream s number x out e) (next-at (s .n) s refl x n p ∙ V-is (s .n) x (s .n / 2 + n));
+  storage = rw (taken-stream s number x out e) (next-kept (s .n) s refl x);
 }
 
 -- ---- a recording is its blocks, analysed one by one
@@ -158,7 +159,7 @@ module _ (N H : ℕ) (x out : List ℤ) (e : playedCode N H x out ≡ 0) (rooms 
   facts = played-facts N H x out e
 
   offer-at : ℕ → Offer
-  offer-at b = record { brought = part N x b; buffer = rooms b }
+  offer-at b = record { number = b; brought = part N x b; buffer = rooms b }
 
   -- block b is taken by the stream after b steps
   taken-at : (b : ℕ) → b < B → code (streamAfter N (part N x) b) (offer-at b) ≡ 0
@@ -167,7 +168,7 @@ module _ (N H : ℕ) (x out : List ℤ) (e : playedCode N H x out ≡ 0) (rooms 
       let s = streamAfter N (part N x) b in
       let fine = stream-fine N (facts .length-is) B x (facts .long) (facts .range) b (omega arith) in
       let l = part-length-is N (facts .length-is) B x (facts .long) (facts .range) b p in
-      demand-1 .stepped s (part N x b) (rooms b) .taken (rw (fine .n-is) (facts .length-is)) (sound-tail s (fine .n-is) (fine .limited)) (rw (fine .n-is) l) (rw (fine .n-is) (fit b (omega arith)))
+      demand-1 .stepped s b (part N x b) (rooms b) .taken (rw (fine .n-is) (facts .length-is)) (sound-tail s (fine .n-is) (fine .limited)) (sym (stream-expected N (part N x) b)) (rw (fine .n-is) l) (rw (fine .n-is) (fit b (omega arith)))
       (record { each = part-range N (facts .length-is) B x (facts .long) (facts .range) b p .small })
     where
       sound-tail : (s : Stream) → s .n ≡ N → ((n : ℕ) → n < N / 2 → natAbs (at (s .tail) n) ≤ N / 2 * 2 ^ 55) → SoundTail s
@@ -175,11 +176,11 @@ module _ (N H : ℕ) (x out : List ℤ) (e : playedCode N H x out ≡ 0) (rooms 
 
   output-is : (b : ℕ) → b < B → answered (streamAfter N (part N x) b) (offer-at b) .output ≡ returned N (part N x) b
   unfolding answered offer-at returned
-  output-is b p = taken-buffer (streamAfter N (part N x) b) (part N x b) (rooms b) (taken-at b p)
+  output-is b p = taken-buffer (streamAfter N (part N x) b) b (part N x b) (rooms b) (taken-at b p)
 
   stream-is : (b : ℕ) → b < B → answered (streamAfter N (part N x) b) (offer-at b) .answer .stream ≡ streamAfter N (part N x) (suc b)
   unfolding answered offer-at streamAfter
-  stream-is b p = taken-stream (streamAfter N (part N x) b) (part N x b) (rooms b) (taken-at b p)
+  stream-is b p = taken-stream (streamAfter N (part N x) b) b (part N x b) (rooms b) (taken-at b p)
 
   -- the steps from block b on
   from : ℕ → ℕ → List Turn

@@ -1,5 +1,5 @@
 -- THE THREE DEMANDS, for every signal, over the definitions that the contracts of the public calls cite (specs/ of block_calls, stream_calls,
--- recording_calls, page, c_face and listing). Each record below is one demand or a part of it; the theorems `demand-1`, `demand-2` and `demand-3` of DemandLaws prove them.
+-- state_calls, recording_calls, page and listing). Each record below is one demand or a part of it; the theorems `demand-1`, `demand-2` and `demand-3` of DemandLaws prove them.
 --
 -- What the contracts add: a call ends on any numbers and any buffer lengths and never overflows, and what it returns and leaves is what these
 -- definitions say. A check of the public calls' crates proves that of the code.
@@ -24,9 +24,9 @@ use Rattle.analysis.specs.Analysis.{offered}
 use Rattle.recording.specs.Recordings.{block, part}
 use Rattle.block_calls.specs.Analysis.{analyseCode, analyseOut}
 use Rattle.checks.specs.Limits.{tailLimit, coefficientLimit, hopLimit}
-use Rattle.stream_calls.specs.Streams.{fresh, stepCode, step, stepOut, placeCode, placeTail, placeOut}
+use Rattle.stream_calls.specs.Streams.{fresh, stepCode, step, stepOut}
 use Rattle.recording_calls.specs.Recordings.{recordedCode, recordedOut, playedCode, playedOut, innerOf}
-use Rattle.c_face.specs.Face.{entries, streamIn, freshCode, freshState, stepState, stepCode as stateCode, stepOut as stateOut}
+use Rattle.state_calls.specs.States.{entries, streamIn, freshCode, freshState, stepState, stepCode as stateCode, stepOut as stateOut}
 use Rattle.text.specs.Bytes.{lineFeed, blank}
 use Rattle.text.specs.Number.{isNumber, value}
 use Rattle.text.specs.Lines.{indexOf, lines, remainder}
@@ -36,11 +36,11 @@ use Rattle.listing.specs.Verdicts.{limit}
 use Rattle.listing.specs.Print.{refusal}
 use Rattle.listing.specs.Listing.{returnedHops, table, listing}
 use Rattle.listing.specs.SizeLaws.{room}
-use Rattle.demands.specs.Steps.{Offer, Turn, Entry, turns, final, Recording, InOrder, Returned, WholeReturned, Sharper}
+use Rattle.demands.specs.Steps.{Offer, Turn, Entry, turns, final, Recording, Numbered, Answered, Returned, WholeReturned, Sharper}
 use Rattle.demands.specs.Chains.{calls, held}
 use Rattle.demands.specs.Recordings.{ByOneCall, BlockByBlock, Back, SharperBack, offering, outputs}
 
--- ================ DEMAND 1: the whole work, or the numbered refusal of document 01, for recordings and pages as document 02, P1 and P2, has it, at P4's six lengths, the short route at four, with stream and buffers as they were
+-- ================ DEMAND 1: the whole work, or the numbered refusal of document 01, for recordings, pages and numbered blocks as document 02, P1, P2 and P6, has it, at P4's six lengths, the short route at four, with stream and buffers as they were
 -- the causes of the table, in words of the input
 abbrev pub Tabled : ℕ → Type 0
 Tabled N = T (tabled N)
@@ -71,30 +71,41 @@ pub record FreshAnswers (N : ℕ) : Type 0 where
   pub one : ¬ Tabled N → fresh N ≡ record { code = 1; stream = S.fresh 0 }
   pub taken : Tabled N → fresh N ≡ record { code = 0; stream = S.fresh N }
 
--- `step`
-pub record StepAnswers (s : Stream) (x out : List ℤ) : Type 0 where
-  pub four-n : ¬ Tabled (s .n) → stepCode s x out ≡ 4
-  pub four-tail : ¬ SoundTail s → stepCode s x out ≡ 4
-  pub two-in : Tabled (s .n) → SoundTail s → length x ≢ s .n / 2 → stepCode s x out ≡ 2
-  pub two-out : Tabled (s .n) → SoundTail s → length out ≢ s .n / 2 → stepCode s x out ≡ 2
-  pub three : Tabled (s .n) → SoundTail s → length x ≡ s .n / 2 → length out ≡ s .n / 2 → ¬ InRange x → stepCode s x out ≡ 3
-  pub taken : Tabled (s .n) → SoundTail s → length x ≡ s .n / 2 → length out ≡ s .n / 2 → InRange x → stepCode s x out ≡ 0
-  pub code : step s x out .code ≡ stepCode s x out
-  pub kept-stream : stepCode s x out ≢ 0 → step s x out .stream ≡ s
-  pub kept : stepCode s x out ≢ 0 → stepOut s x out ≡ out
+-- `step`. A number has 32 bits, so that a stream which expects 2^32 or more, as after the last number or forged, takes no block
+pub record StepAnswers (s : Stream) (number : ℕ) (x out : List ℤ) : Type 0 where
+  pub four-n : ¬ Tabled (s .n) → stepCode s number x out ≡ 4
+  pub four-tail : ¬ SoundTail s → stepCode s number x out ≡ 4
+  pub seven : Tabled (s .n) → SoundTail s → number ≢ s .expected → stepCode s number x out ≡ 7
+  pub seven-none : Tabled (s .n) → SoundTail s → number < 2 ^ 32 → 2 ^ 32 ≤ s .expected → stepCode s number x out ≡ 7
+  pub two-in : Tabled (s .n) → SoundTail s → number ≡ s .expected → length x ≢ s .n / 2 → stepCode s number x out ≡ 2
+  pub two-out : Tabled (s .n) → SoundTail s → number ≡ s .expected → length out ≢ s .n / 2 → stepCode s number x out ≡ 2
+  pub three : Tabled (s .n) → SoundTail s → number ≡ s .expected → length x ≡ s .n / 2 → length out ≡ s .n / 2 → ¬ InRange x → stepCode s number x out ≡ 3
+  pub taken : Tabled (s .n) → SoundTail s → number ≡ s .expected → length x ≡ s .n / 2 → length out ≡ s .n / 2 → InRange x → stepCode s number x out ≡ 0
+  pub code : step s number x out .code ≡ stepCode s number x out
+  pub kept-stream : stepCode s number x out ≢ 0 → step s number x out .stream ≡ s
+  pub kept : stepCode s number x out ≢ 0 → stepOut s number x out ≡ out
 
--- `step_in_place`: `step` on the stream of N and the tail
-abbrev pub streamOf : ℕ → List ℤ → Stream
-streamOf N tail = record { n = N; tail = tail }
+-- `fresh_in_place`: taken, the state holds the stream that `fresh` makes
+pub record StateFreshAnswers (N : ℕ) (state : List ℤ) : Type 0 where
+  pub one : ¬ Tabled N → freshCode N state ≡ 1
+  pub two : Tabled N → length state ≢ entries → freshCode N state ≡ 2
+  pub taken : Tabled N → length state ≡ entries → freshCode N state ≡ 0
+  pub holds : freshCode N state ≡ 0 → streamIn (freshState N state) ≡ fresh N .stream
+  pub long : freshCode N state ≡ 0 → length (freshState N state) ≡ entries
+  pub kept : freshCode N state ≢ 0 → freshState N state ≡ state
 
-pub record PlaceAnswers (N : ℕ) (tail x out : List ℤ) : Type 0 where
-  pub four-n : ¬ Tabled N → placeCode N tail x out ≡ 4
-  pub two-tail : Tabled N → length tail ≢ S.storage → placeCode N tail x out ≡ 2
-  pub same : length tail ≡ S.storage → placeCode N tail x out ≡ stepCode (streamOf N tail) x out
-  pub same-tail : length tail ≡ S.storage → placeTail N tail x out ≡ step (streamOf N tail) x out .stream .tail
-  pub same-out : length tail ≡ S.storage → placeOut N tail x out ≡ stepOut (streamOf N tail) x out
-  pub kept-tail : placeCode N tail x out ≢ 0 → placeTail N tail x out ≡ tail
-  pub kept : placeCode N tail x out ≢ 0 → placeOut N tail x out ≡ out
+-- `step_in_place`: `step` on the stream that the state holds, which then holds the stream that `step` gives back. A negative N is 4, and a negative expected
+-- number is 7 for every block
+pub record StateStepAnswers (state : List ℤ) (number : ℕ) (x out : List ℤ) : Type 0 where
+  pub two-state : length state ≢ entries → stateCode state number x out ≡ 2
+  pub same : length state ≡ entries → stateCode state number x out ≡ stepCode (streamIn state) number x out
+  pub same-stream : length state ≡ entries → streamIn (stepState state number x out) ≡ step (streamIn state) number x out .stream
+  pub same-out : length state ≡ entries → stateOut state number x out ≡ stepOut (streamIn state) number x out
+  pub four-negative : length state ≡ entries → at state 0 <ℤ pos 0 → stateCode state number x out ≡ 4
+  pub seven-negative : length state ≡ entries → Tabled (streamIn state .n) → SoundTail (streamIn state) → number < 2 ^ 32 → at state 1 <ℤ pos 0 → stateCode state number x out ≡ 7
+  pub long : length (stepState state number x out) ≡ length state
+  pub kept-state : stateCode state number x out ≢ 0 → stepState state number x out ≡ state
+  pub kept : stateCode state number x out ≢ 0 → stateOut state number x out ≡ out
 
 -- `analyse_recording`, by either route: H × M samples in, the (H + 1) × M coefficients of all blocks out
 pub record RecordedAnswers (route : Route) (N H : ℕ) (x out : List ℤ) : Type 0 where
@@ -132,26 +143,7 @@ pub record PageAnswers (N H : ℕ) (x : List ℤ) (out : List ℕ) : Type 0 wher
   pub taken : Tabled N → Counted H → length x ≡ (H + 1) * (N / 2) → length out ≡ (H + 1) * (N / 2 / 6) * 81 → InRange x → pageCode N H x out ≡ 0
   pub kept : pageCode N H x out ≢ 0 → pageOut N H x out ≡ out
 
--- the calls for C. Those on blocks, on whole recordings and on pages answer as those above: their contracts are the same definitions at a route by name.
--- `dapplescree_stream_fresh`: taken, the state holds the stream that `fresh` makes
-pub record StateFreshAnswers (N : ℕ) (state : List ℤ) : Type 0 where
-  pub one : ¬ Tabled N → freshCode N state ≡ 1
-  pub two : Tabled N → length state ≢ entries → freshCode N state ≡ 2
-  pub taken : Tabled N → length state ≡ entries → freshCode N state ≡ 0
-  pub holds : freshCode N state ≡ 0 → streamIn (freshState N state) ≡ fresh N .stream
-  pub long : freshCode N state ≡ 0 → length (freshState N state) ≡ entries
-  pub kept : freshCode N state ≢ 0 → freshState N state ≡ state
-
--- `dapplescree_stream_step`: `step` on the stream that the state holds, which then holds the stream that `step` gives back
-pub record StateStepAnswers (state x out : List ℤ) : Type 0 where
-  pub two-state : length state ≢ entries → stateCode state x out ≡ 2
-  pub same : length state ≡ entries → stateCode state x out ≡ stepCode (streamIn state) x out
-  pub same-stream : length state ≡ entries → streamIn (stepState state x out) ≡ step (streamIn state) x out .stream
-  pub same-out : length state ≡ entries → stateOut state x out ≡ stepOut (streamIn state) x out
-  pub four-negative : length state ≡ entries → at state 0 <ℤ pos 0 → stateCode state x out ≡ 4
-  pub long : length (stepState state x out) ≡ length state
-  pub kept-state : stateCode state x out ≢ 0 → stepState state x out ≡ state
-  pub kept : stateCode state x out ≢ 0 → stateOut state x out ≡ out
+-- the calls for C answer as those above: their contracts are the same definitions, at a route by name, and on streams those of a state
 
 -- `listing::round_trip`: what it writes, for any bytes; a refusal is a line. Line 1 is a number that names a tabled N, and further lines stand behind it
 pub record Begun (text : List ℕ) (N : ℕ) (hops : List (List ℕ)) : Type 0 where
@@ -181,14 +173,16 @@ pub record ListingAnswers (text : List ℕ) : Type 0 where
 pub record Demand-1 : Type 0 where
   pub analyse : (route : Route) (N : ℕ) (x out : List ℤ) → AnalyseAnswers route N x out
   pub made : (N : ℕ) → FreshAnswers N
-  pub stepped : (s : Stream) (x out : List ℤ) → StepAnswers s x out
-  pub placed : (N : ℕ) (tail x out : List ℤ) → PlaceAnswers N tail x out
+  pub stepped : (s : Stream) (number : ℕ) (x out : List ℤ) → StepAnswers s number x out
+  -- 4294967295 is the last number: once it is taken, every block is 7
+  pub last-number : (s : Stream) (x out : List ℤ) → stepCode s 4294967295 x out ≡ 0 → (number : ℕ) → number < 2 ^ 32 → (y room : List ℤ) →
+      stepCode (step s 4294967295 x out .stream) number y room ≡ 7
+  pub state-made : (N : ℕ) (state : List ℤ) → StateFreshAnswers N state
+  pub state-stepped : (state : List ℤ) (number : ℕ) (x out : List ℤ) → StateStepAnswers state number x out
   pub recorded : (route : Route) (N H : ℕ) (x out : List ℤ) → RecordedAnswers route N H x out
   pub played : (N H : ℕ) (x out : List ℤ) → PlayedAnswers N H x out
   pub inner : (N H : ℕ) (out : List ℤ) → InnerAnswers N H out
   pub paged : (N H : ℕ) (x : List ℤ) (out : List ℕ) → PageAnswers N H x out
-  pub state-made : (N : ℕ) (state : List ℤ) → StateFreshAnswers N state
-  pub state-stepped : (state x out : List ℤ) → StateStepAnswers state x out
   pub listed : (text : List ℕ) → ListingAnswers text
 
 -- ================ DEMAND 2: every coefficient and every sample is document 01's with a turn of 864 parts (P4) and halves going away from zero (P5; its sign rule is in Turned), of a recording between the two hops of zeros of document 02, P1, and every byte of a page is P2's
@@ -213,13 +207,14 @@ pub record Analysed (N : ℕ) (x out : List ℤ) (k : ℕ) : Type 0 where
   -- .. and the coefficients 3i + 1 are the definition's
   pub exact : analyseCode Short N x out ≡ 0 → (i : ℕ) → k ≡ 3 * i + 1 → at (analyseOut Short N x out) k ≡ X N x k
 
--- a step that was taken: the hop, the new tail, and storage beyond M as it was
-pub record Stepped-on (s : Stream) (x out : List ℤ) : Type 0 where
-  pub long : length (stepOut s x out) ≡ s .n / 2
-  pub hop : (n : ℕ) → n < s .n / 2 → at (stepOut s x out) n ≡ clamp (rnd (at (s .tail) n +ℤ V′ (s .n) x n) (s .n * 2 ^ 30))
-  pub n-kept : step s x out .stream .n ≡ s .n
-  pub tail : (n : ℕ) → n < s .n / 2 → at (step s x out .stream .tail) n ≡ V′ (s .n) x (s .n / 2 + n)
-  pub storage : drop (s .n / 2) (step s x out .stream .tail) ≡ drop (s .n / 2) (s .tail)
+-- a step that was taken: the hop, one more expected, the new tail, and storage beyond M as it was
+pub record Stepped-on (s : Stream) (number : ℕ) (x out : List ℤ) : Type 0 where
+  pub long : length (stepOut s number x out) ≡ s .n / 2
+  pub hop : (n : ℕ) → n < s .n / 2 → at (stepOut s number x out) n ≡ clamp (rnd (at (s .tail) n +ℤ V′ (s .n) x n) (s .n * 2 ^ 30))
+  pub n-kept : step s number x out .stream .n ≡ s .n
+  pub counted : step s number x out .stream .expected ≡ s .expected + 1
+  pub tail : (n : ℕ) → n < s .n / 2 → at (step s number x out .stream .tail) n ≡ V′ (s .n) x (s .n / 2 + n)
+  pub storage : drop (s .n / 2) (step s number x out .stream .tail) ≡ drop (s .n / 2) (s .tail)
 
 -- the calls over recordings are the single-block calls and the stream, block by block
 pub record Recorded-on (route : Route) (N H : ℕ) (x out : List ℤ) : Type 0 where
@@ -227,7 +222,7 @@ pub record Recorded-on (route : Route) (N H : ℕ) (x out : List ℤ) : Type 0 w
   pub each : (b : ℕ) → b ≤ H → (room : List ℤ) → length room ≡ N / 2 →
       (analyseCode route N (block N x b) room ≡ 0) × (part N (recordedOut route N H x out) b ≡ analyseOut route N (block N x b) room)
 
--- every block is taken; what comes back is what the steps return, without the run-in
+-- every block is taken, under its number; what comes back is what the steps return, without the run-in
 pub record Played-on (N H : ℕ) (x out : List ℤ) (rooms : ℕ → List ℤ) : Type 0 where
   pub taken : (i : ℕ) (t : Turn) → Entry (turns N (offering N x rooms 0 (H + 1))) i t → t .answer .code ≡ 0
   pub hops : playedOut N H x out ≡ drop (N / 2) (outputs (turns N (offering N x rooms 0 (H + 1))))
@@ -252,24 +247,27 @@ pub record Paged-on (N H : ℕ) (x : List ℤ) (page : List ℕ) : Type 0 where
 pub record Demand-2 : Type 0 where
   pub analysed : (route : Route) (N : ℕ) (x out : List ℤ) → analyseCode route N x out ≡ 0 → length (analyseOut route N x out) ≡ N / 2
   pub coefficient : (N : ℕ) (x out : List ℤ) (k : ℕ) → k < N / 2 → Analysed N x out k
-  pub stepped : (s : Stream) (x out : List ℤ) → stepCode s x out ≡ 0 → Stepped-on s x out
+  pub stepped : (s : Stream) (number : ℕ) (x out : List ℤ) → stepCode s number x out ≡ 0 → Stepped-on s number x out
   pub recorded : (route : Route) (N H : ℕ) (x out : List ℤ) → recordedCode route N H x out ≡ 0 → Recorded-on route N H x out
   pub played : (N H : ℕ) (x out : List ℤ) → playedCode N H x out ≡ 0 → (rooms : ℕ → List ℤ) → ((b : ℕ) → b ≤ H → length (rooms b) ≡ N / 2) → Played-on N H x out rooms
   pub paged : (N H : ℕ) (x : List ℤ) (out : List ℕ) → pageCode N H x out ≡ 0 → Paged-on N H x (pageOut N H x out)
   -- two different sets of coefficients give two different pages
   pub pages : (N H : ℕ) (x y : List ℤ) (out out′ : List ℕ) → pageCode N H x out ≡ 0 → pageCode N H y out′ ≡ 0 → pageOut N H x out ≡ pageOut N H y out′ → x ≡ y
 
--- ================ DEMAND 3: sound there and back
+-- ================ DEMAND 3: sound there and back, of a recording as P1 has it, its blocks offered in any order and each known by its number (P6)
 pub record Demand-3 : Type 0 where
-  -- the list of steps: any recording of a hop or more, any offers, refused ones anywhere, a route for each block, any Q
-  pub list : (N : ℕ) → Tabled N → (H Q : ℕ) (routes : ℕ → Route) (x : List ℤ) → Recording N H x → (offers : List Offer) → InOrder N H Q routes x (turns N offers) →
+  -- every list of steps, whatever they bring, by value and on one state
+  pub answered : (N : ℕ) → Tabled N → (offers : List Offer) → Answered N (turns N offers) (final N offers)
+  pub calls-answered : (N : ℕ) (state : List ℤ) → freshCode N state ≡ 0 → (offers : List Offer) → Answered N (calls (freshState N state) offers) (held (freshState N state) offers)
+  -- the list of steps: any recording of a hop or more, any offers in any order, refused ones anywhere, a route for each block, any Q
+  pub list : (N : ℕ) → Tabled N → (H Q : ℕ) (routes : ℕ → Route) (x : List ℤ) → Recording N H x → (offers : List Offer) → Numbered N H Q routes x (turns N offers) →
       Returned N Q routes x (turns N offers) (final N offers)
   -- and once all H + 1 blocks are taken, every sample of the recording
-  pub whole : (N : ℕ) → Tabled N → (H Q : ℕ) (routes : ℕ → Route) (x : List ℤ) → Recording N H x → (offers : List Offer) → InOrder N H Q routes x (turns N offers) →
+  pub whole : (N : ℕ) → Tabled N → (H Q : ℕ) (routes : ℕ → Route) (x : List ℤ) → Recording N H x → (offers : List Offer) → Numbered N H Q routes x (turns N offers) →
       WholeReturned N H Q routes x (turns N offers)
-  -- the same for the calls for C on one state
+  -- the same for steps in place, and so for the calls for C, on one state
   pub calls : (N : ℕ) (state : List ℤ) → freshCode N state ≡ 0 → (H Q : ℕ) (routes : ℕ → Route) (x : List ℤ) → Recording N H x → (offers : List Offer) →
-      InOrder N H Q routes x (calls (freshState N state) offers) →
+      Numbered N H Q routes x (calls (freshState N state) offers) →
       Returned N Q routes x (calls (freshState N state) offers) (held (freshState N state) offers) × WholeReturned N H Q routes x (calls (freshState N state) offers)
   -- the calls over whole recordings: analysed by one call, and block by block
   pub once : (N H Q : ℕ) (route : Route) (x c out : List ℤ) → ((i : ℕ) → i < length x → Sample (at x i)) → ByOneCall N H Q route x c → playedCode N H c out ≡ 0 →
@@ -279,10 +277,10 @@ pub record Demand-3 : Type 0 where
 
 -- ================ BEYOND DEMAND 3: each sample within (3 Q + 36) / 64, equal up to Q = 9, with Q + 7 for Q after the short route
 pub record Beyond : Type 0 where
-  pub list : (N : ℕ) → Tabled N → (H Q : ℕ) (routes : ℕ → Route) (x : List ℤ) → Recording N H x → (offers : List Offer) → InOrder N H Q routes x (turns N offers) →
+  pub list : (N : ℕ) → Tabled N → (H Q : ℕ) (routes : ℕ → Route) (x : List ℤ) → Recording N H x → (offers : List Offer) → Numbered N H Q routes x (turns N offers) →
       Sharper N Q routes x (turns N offers)
   pub calls : (N : ℕ) (state : List ℤ) → freshCode N state ≡ 0 → (H Q : ℕ) (routes : ℕ → Route) (x : List ℤ) → Recording N H x → (offers : List Offer) →
-      InOrder N H Q routes x (calls (freshState N state) offers) → Sharper N Q routes x (calls (freshState N state) offers)
+      Numbered N H Q routes x (calls (freshState N state) offers) → Sharper N Q routes x (calls (freshState N state) offers)
   pub once : (N H Q : ℕ) (route : Route) (x c out : List ℤ) → ((i : ℕ) → i < length x → Sample (at x i)) → ByOneCall N H Q route x c → playedCode N H c out ≡ 0 →
       SharperBack N H Q (λ b. route) x (playedOut N H c out)
   pub blocks : (N H Q : ℕ) (routes : ℕ → Route) (x c out : List ℤ) → Recording N H x → BlockByBlock N H Q routes x c → playedCode N H c out ≡ 0 →

@@ -2,9 +2,12 @@
 -- among it; and the same blocks for the calls over whole recordings. ExampleLaws applies the theorems to them.
 use mathlib.Core.List.{List, [], _∷_, _++_}
 use Prim.Native.Nat.{ℕ, zero, suc}
+use lib.ListN.{replicate}
 use lib.IntN.{ℤ, pos, negℤ, _+ℤ_}
 use Rattle.analysis.specs.declared.Route.{Route}
 use Rattle.analysis.specs.declared.Route.the-variants.{Direct, Short}
+use Rattle.stream.specs.declared.Stream.{Stream}
+use Rattle.stream.specs.Synthesis.{storage}
 use Rattle.demands.specs.Steps.{Offer}
 
 abbrev pub minus : ℕ → ℤ
@@ -82,16 +85,22 @@ loud = pos 0 ∷ pos 0 ∷ pos 536870913 ∷ pos 0 ∷ pos 0 ∷ pos 0 ∷ []
 unfoldable pub low : List ℤ
 low = pos 0 ∷ pos 0 ∷ pos 0 ∷ pos 0 ∷ pos 0 ∷ minus 536870913 ∷ []
 
-abbrev pub offer : List ℤ → List ℤ → Offer
-offer coefficients buffer = record { brought = coefficients; buffer = buffer }
+abbrev pub offer : ℕ → List ℤ → List ℤ → Offer
+offer number coefficients buffer = record { number = number; brought = coefficients; buffer = buffer }
 
+-- blocks too early, again, and with a wrong number whatever else is wrong; damaged ones under the right number; and each of the four until it is taken
 unfoldable pub offers : List Offer
 offers =
-    offer five room ∷ offer block-0 room ∷ offer loud room ∷ offer block-1 room ∷ offer block-2 small-room ∷ offer block-2 room ∷
-    offer low room ∷ offer block-3 room ∷ offer loud room ∷ []
+    offer 1 block-1 room ∷ offer 0 five room ∷ offer 0 block-0 room ∷ offer 0 block-0 room ∷ offer 1 loud room ∷ offer 3 block-3 room ∷ offer 1 block-1 room ∷
+    offer 2 block-2 small-room ∷ offer 2 block-2 room ∷ offer 7 loud small-room ∷ offer 2 block-0 room ∷ offer 3 low room ∷ offer 3 block-3 room ∷
+    offer 4 loud room ∷ offer 4294967295 block-0 room ∷ []
 
 unfoldable pub knock-offers : List Offer
-knock-offers = offer block-0 room ∷ offer loud room ∷ offer knock-1 room ∷ []
+knock-offers = offer 0 block-0 room ∷ offer 1 loud room ∷ offer 1 knock-1 room ∷ []
+
+-- a stream that expects the last number
+unfoldable pub at-the-last : Stream
+at-the-last = record { n = 12; expected = 4294967295; tail = replicate storage (pos 0) }
 
 -- ---- the same blocks for the calls over whole recordings: their coefficients one after the other, and a buffer for the samples
 unfoldable pub whole : List ℤ

@@ -3,7 +3,7 @@
 use mathlib.Core.Path.{_≡_, refl, sym, _∙_}
 use mathlib.Core.Bool.{Bool, false, cond}
 use mathlib.Core.List.{List, [], _∷_, _++_}
-use Prim.Native.Nat.{ℕ, suc, _+_, _*_, _/_, _%_, _≤_, _<_}
+use Prim.Native.Nat.{ℕ, suc, _+_, _*_, _/_, _%_, _^_, _≤_, _<_}
 use native.Mathlib.Omega.{arith}
 use lib.Dec.{T, eqb, eqb→eq, leb, leb→le, lit<, lit≤}
 use lib.ListN.{length, getD, take, drop, replicate, getD-replicate}
@@ -20,6 +20,7 @@ use Rattle.transform.specs.Analysis.{window, y, S, X, direct}
 use Rattle.split.specs.ShortRoute as R
 use Rattle.transform.specs.Synthesis.{U, V′}
 use Rattle.stream.specs.Synthesis as Y
+use Rattle.stream.specs.Synthesis.{storage}
 use Rattle.analysis.specs.declared.Route.{Route}
 use Rattle.analysis.specs.declared.Route.the-variants.{Direct, Short}
 use Rattle.analysis.specs.Analysis.{offered, spectrum, coefficients}
@@ -36,20 +37,22 @@ use Rattle.text.specs.Number.{digitsBy, decimal, printed}
 use Rattle.text.specs.Lines.{lines}
 use Rattle.text.specs.Columns.{aligned}
 use Rattle.page.specs.Page.{margin, columns, pageOf, pageCauses, pageCode, pageOut, numberIn}
-use Rattle.c_face.specs.Face.{entries, freshCauses, freshCode, freshState}
-use Rattle.demands.specs.Steps.{Offer, Turn, answered, run, taken, offers-of, turns, final, Entry, Recording, Brought, InOrder, unitsOf, change, Returned, WholeReturned, Sharper}
+use Rattle.state_calls.specs.States.{entries, numberIn as entryNumber, streamIn, freshCauses, freshCode, freshState, stepCode as stateCode}
+use Rattle.demands.specs.Steps.{Offer, Turn, answered, run, taken, offers-of, turns, final, Entry, Recording, Brought, Numbered, unitsOf, change, Answered, Returned, WholeReturned, Sharper}
 use Rattle.demands.specs.Steps.Entry.{first, later}
 use Rattle.demands.specs.RunLaws.{no-entry, entry-offer, entry-turn}
 use Rattle.demands.specs.Recordings.{ByOneCall, BlockByBlock, Back}
 use Rattle.demands.specs.Chains.{calls, held}
-use Rattle.demands.specs.ThereAndBackLaws.{there-and-back, whole-returned, there-and-back-sharper}
+use Rattle.demands.specs.ThereAndBackLaws.{every-list, there-and-back, whole-returned, there-and-back-sharper}
 use Rattle.demands.specs.ChainLaws.{fresh-calls, calls-there-and-back, calls-whole}
+use Rattle.demands.specs.AnswerLaws.{demand-1}
 use Rattle.demands.specs.DefinitionLaws.{demand-2}
 use Rattle.demands.specs.BackLaws.{back-by-one-call, back-block-by-block}
 use Rattle.demands.specs.UnchangedLaws.{unchanged-taken, unchanged-back}
+use Rattle.demands.specs.Demands.{SoundTail, Played-on}
 use Rattle.demands.specs.Turned.{opposite}
 use Rattle.demands.specs.TurnLaws.{sign-rule}
-use Rattle.demands.specs.Example.{minus, recording, routes, knock, directly, changed, block-0, block-1, block-2, block-3, knock-1, room, small-room, five, loud, low, offer, offers, knock-offers, whole, hops-room, knock-whole}
+use Rattle.demands.specs.Example.{minus, recording, routes, knock, directly, changed, block-0, block-1, block-2, block-3, knock-1, room, small-room, five, loud, low, offer, offers, knock-offers, at-the-last, whole, hops-room, knock-whole}
 
 -- ---- the definitions that the tests below open, under one name
 cosines : Unit {0}
@@ -81,20 +84,20 @@ codes-of : List Turn → List ℕ
 codes-of [] = []
 codes-of (t ∷ ts) = t .answer .code ∷ codes-of ts
 
-codes : codes-of (turns 12 offers) ≡ 2 ∷ 0 ∷ 3 ∷ 0 ∷ 2 ∷ 0 ∷ 3 ∷ 0 ∷ 3 ∷ []
+codes : codes-of (turns 12 offers) ≡ 7 ∷ 2 ∷ 0 ∷ 7 ∷ 3 ∷ 7 ∷ 0 ∷ 2 ∷ 0 ∷ 7 ∷ 7 ∷ 3 ∷ 0 ∷ 3 ∷ 7 ∷ []
 unfolding computed codes-of
 codes = refl
 
 -- what was offered at the taken ones
 abbrev brought-offers : List Offer
-brought-offers = offer block-0 room ∷ offer block-1 room ∷ offer block-2 room ∷ offer block-3 room ∷ []
+brought-offers = offer 0 block-0 room ∷ offer 1 block-1 room ∷ offer 2 block-2 room ∷ offer 3 block-3 room ∷ []
 
 taken-offers : offers-of (taken (turns 12 offers)) ≡ brought-offers
 unfolding computed
 taken-offers = refl
 
 abbrev knock-brought : List Offer
-knock-brought = offer block-0 room ∷ offer knock-1 room ∷ []
+knock-brought = offer 0 block-0 room ∷ offer 1 knock-1 room ∷ []
 
 knock-taken : offers-of (taken (turns 12 knock-offers)) ≡ knock-brought
 unfolding computed
@@ -164,21 +167,21 @@ brought routes H x b c p o e t =
     let off : ℕ → ℕ = λ k. natAbs (at c k -ℤ at (coefficients (routes b) 12 (block 12 x b)) k) in
     record { exists = p; offers = o; long = e; near = λ k q. leb→le (off k) 7 (all-at 6 (λ k. leb (off k) 7) t k q) }
 
--- the taken steps bring blocks 0 to 3
-in-order : InOrder 12 3 7 routes recording (turns 12 offers)
-in-order = record { each = λ j t e. go (rw taken-offers at (entry-offer e)) }
+-- the taken steps bring the blocks of their numbers
+numbered : Numbered 12 3 7 routes recording (turns 12 offers)
+numbered = record { each = λ j t e. go (rw taken-offers at (entry-offer e)) }
   where
-    go : {j : ℕ} {o : Offer} → Entry brought-offers j o → Brought 12 3 7 routes recording j (o .brought)
+    go : {j : ℕ} {o : Offer} → Entry brought-offers j o → Brought 12 3 7 routes recording (o .number) (o .brought)
     go first = brought routes 3 recording 0 block-0 (lit≤ tt) (unfold answers in tt) (unfold computed in refl) near-0
     go (later first) = brought routes 3 recording 1 block-1 (lit≤ tt) (unfold answers in tt) (unfold computed in refl) near-1
     go (later (later first)) = brought routes 3 recording 2 block-2 (lit≤ tt) (unfold answers in tt) (unfold computed in refl) near-2
     go (later (later (later first))) = brought routes 3 recording 3 block-3 (lit≤ tt) (unfold answers in tt) (unfold computed in refl) near-3
     go (later (later (later (later e)))) = absurd (no-entry e refl)
 
-knock-order : InOrder 12 1 7 directly knock (turns 12 knock-offers)
-knock-order = record { each = λ j t e. go (rw knock-taken at (entry-offer e)) }
+knock-numbered : Numbered 12 1 7 directly knock (turns 12 knock-offers)
+knock-numbered = record { each = λ j t e. go (rw knock-taken at (entry-offer e)) }
   where
-    go : {j : ℕ} {o : Offer} → Entry knock-brought j o → Brought 12 1 7 directly knock j (o .brought)
+    go : {j : ℕ} {o : Offer} → Entry knock-brought j o → Brought 12 1 7 directly knock (o .number) (o .brought)
     go first = brought directly 1 knock 0 block-0 (lit≤ tt) (unfold answers in tt) (unfold computed in refl) knock-near-0
     go (later first) = brought directly 1 knock 1 knock-1 (lit≤ tt) (unfold answers in tt) (unfold computed in refl) knock-near-1
     go (later (later e)) = absurd (no-entry e refl)
@@ -189,34 +192,38 @@ unfolding computed
 twelve = tt
 
 pub returned : Returned 12 7 routes recording (turns 12 offers) (final 12 offers)
-returned = there-and-back 12 twelve 3 7 routes recording recorded offers in-order
+returned = there-and-back 12 twelve 3 7 routes recording recorded offers numbered
 
 pub knock-returned : Returned 12 7 directly knock (turns 12 knock-offers) (final 12 knock-offers)
-knock-returned = there-and-back 12 twelve 1 7 directly knock knock-recorded knock-offers knock-order
+knock-returned = there-and-back 12 twelve 1 7 directly knock knock-recorded knock-offers knock-numbered
+
+-- a list of which no recording is asked: block 3 is taken under number 0
+pub foreign : Answered 12 (turns 12 (offer 0 block-3 room ∷ offers)) (final 12 (offer 0 block-3 room ∷ offers))
+foreign = every-list 12 twelve (offer 0 block-3 room ∷ offers)
 
 -- and beyond what is asked
 pub sharper : Sharper 12 7 routes recording (turns 12 offers)
-sharper = there-and-back-sharper 12 twelve 3 7 routes recording recorded offers in-order
+sharper = there-and-back-sharper 12 twelve 3 7 routes recording recorded offers numbered
 
 -- ---- all blocks are taken, so every sample has returned
 pub all-taken : length (taken (turns 12 offers)) ≡ 4
 unfolding computed
 all-taken = refl
 
-pub every-sample : (i : ℕ) → i < 18 → (t : Turn) × Entry (taken (turns 12 offers)) (suc (i / 6)) t ×
+pub every-sample : (i : ℕ) → i < 18 → (t : Turn) × Entry (taken (turns 12 offers)) (suc (i / 6)) t × (t .offer .number ≡ suc (i / 6)) ×
     (natAbs (at (t .output) (i % 6) -ℤ at recording i) ≤ (change 7 (routes (i / 6)) (routes (suc (i / 6))) + 8) / 16)
-every-sample = whole-returned 12 twelve 3 7 routes recording recorded offers in-order .near all-taken
+every-sample = whole-returned 12 twelve 3 7 routes recording recorded offers numbered .near all-taken
 
 pub knock-all-taken : length (taken (turns 12 knock-offers)) ≡ 2
 unfolding computed
 knock-all-taken = refl
 
 -- and each of the six samples of the single hop as it was
-pub knock-back : (i : ℕ) → i < 6 → (t : Turn) × Entry (taken (turns 12 knock-offers)) (suc (i / 6)) t × (at (t .output) (i % 6) ≡ at knock i)
+pub knock-back : (i : ℕ) → i < 6 → (t : Turn) × Entry (taken (turns 12 knock-offers)) (suc (i / 6)) t × (t .offer .number ≡ suc (i / 6)) × (at (t .output) (i % 6) ≡ at knock i)
 unfolding directly
-knock-back i p = whole-returned 12 twelve 1 7 directly knock knock-recorded knock-offers knock-order .same knock-all-taken (lit≤ tt) i p refl refl
+knock-back i p = whole-returned 12 twelve 1 7 directly knock knock-recorded knock-offers knock-numbered .same knock-all-taken (lit≤ tt) i p refl refl
 
--- ---- the same offers to the calls for C, on a state that held nines
+-- ---- the same offers to the steps in place, on a state that held nines
 pub nines : List ℤ
 nines = replicate entries (pos 9)
 
@@ -225,10 +232,10 @@ unfolding answers freshCauses freshCode nines
 made = refl
 
 pub on-a-state : Returned 12 7 routes recording (calls (freshState 12 nines) offers) (held (freshState 12 nines) offers)
-on-a-state = calls-there-and-back 12 nines made offers 3 7 routes recording recorded (rw (fresh-calls 12 nines made offers) in-order)
+on-a-state = calls-there-and-back 12 nines made offers 3 7 routes recording recorded (rw (fresh-calls 12 nines made offers) numbered)
 
 pub whole-on-a-state : WholeReturned 12 3 7 routes recording (calls (freshState 12 nines) offers)
-whole-on-a-state = calls-whole 12 nines made offers 3 7 routes recording recorded (rw (fresh-calls 12 nines made offers) in-order)
+whole-on-a-state = calls-whole 12 nines made offers 3 7 routes recording recorded (rw (fresh-calls 12 nines made offers) numbered)
 
 -- ---- what it says of two of the taken steps
 -- the taken step j, at which o was offered, and what is claimed of its output
@@ -249,25 +256,54 @@ six-at : (m n : ℕ) → n < 6 → at recording (m + n) ≡ at (take 6 (drop m r
 six-at m n p = sym (getD-take 6 (drop m recording) n (pos 0) p ∙ getD-drop m recording n (pos 0))
 
 -- the step that brings block 1 returns hop 0 of the recording, sample for sample
-pub hop-0 : TakenStep 1 (offer block-1 room) (λ out. out ≡ pos 7 ∷ minus 8 ∷ pos 32767 ∷ minus 32768 ∷ pos 1 ∷ pos 0 ∷ [])
+pub hop-0 : TakenStep 1 (offer 1 block-1 room) (λ out. out ≡ pos 7 ∷ minus 8 ∷ pos 32767 ∷ minus 32768 ∷ pos 1 ∷ pos 0 ∷ [])
 unfolding recording routes
-hop-0 = taken-step 1 (offer block-1 room) (λ out. out ≡ take 6 (drop 0 recording)) (later first) go
+hop-0 = taken-step 1 (offer 1 block-1 room) (λ out. out ≡ take 6 (drop 0 recording)) (later first) go
   where
     go : (t : Turn) → Entry (taken (turns 12 offers)) 1 t → t .output ≡ take 6 (drop 0 recording)
     go t e =
-        let l = returned .hop-long 1 t e in
-        ext-getD (pos 0) (t .output) (take 6 (drop 0 recording)) l (λ n p. returned .hop-same 0 t e (lit≤ tt) refl refl n (omega arith) ∙ six-at 0 n (omega arith))
+        let l = returned .answered .hop-long 1 t e in
+        ext-getD (pos 0) (t .output) (take 6 (drop 0 recording)) l (λ n p. returned .hop-same 1 t e 0 (returned .answered .numbers 1 t e) (lit≤ tt) refl refl n (omega arith) ∙ six-at 0 n (omega arith))
 
 -- the step that brings block 2, by the short route, returns hop 1 up to 1
-pub hop-1 : TakenStep 2 (offer block-2 room) (λ out. (n : ℕ) → n < 6 → natAbs (at out n -ℤ pos 5) ≤ 1)
+pub hop-1 : TakenStep 2 (offer 2 block-2 room) (λ out. (n : ℕ) → n < 6 → natAbs (at out n -ℤ pos 5) ≤ 1)
 unfolding recording routes unitsOf change
-hop-1 = taken-step 2 (offer block-2 room) (λ out. (n : ℕ) → n < 6 → natAbs (at out n -ℤ pos 5) ≤ 1) (later (later first))
-    (λ t e n p. rw (six-at 6 n p, getD-replicate 6 n (pos 5) (pos 0) p) at (returned .hop-near 1 t e n p))
+hop-1 = taken-step 2 (offer 2 block-2 room) (λ out. (n : ℕ) → n < 6 → natAbs (at out n -ℤ pos 5) ≤ 1) (later (later first))
+    (λ t e n p. rw (six-at 6 n p, getD-replicate 6 n (pos 5) (pos 0) p) at (returned .hop-near 2 t e 1 (returned .answered .numbers 2 t e) n p))
+
+-- ---- the last number is taken once; then every block is 7
+pub last-taken : stepCode at-the-last 4294967295 block-0 room ≡ 0
+unfolding computed at-the-last
+last-taken = refl
+
+pub none-behind : (number : ℕ) → number < 2 ^ 32 → (x out : List ℤ) → stepCode (step at-the-last 4294967295 block-0 room .stream) number x out ≡ 7
+none-behind number p x out = demand-1 .last-number at-the-last block-0 room last-taken number p x out
+
+pub last-counted : step at-the-last 4294967295 block-0 room .stream .expected ≡ 2 ^ 32
+unfolding at-the-last
+last-counted = demand-2 .stepped at-the-last 4294967295 block-0 room last-taken .counted
+
+-- a state of zeros whose expected number is -1 takes no block
+pub below-zero : List ℤ
+below-zero = pos 12 ∷ minus 1 ∷ replicate storage (pos 0)
+
+below-zero-tail : SoundTail (streamIn below-zero)
+unfolding streamIn entryNumber below-zero tailLimit
+below-zero-tail = record { each = λ n p. rw (getD-replicate storage n (pos 0) (pos 0) (omega arith)) (omega arith) }
+
+pub none-expected : (number : ℕ) → number < 2 ^ 32 → (x out : List ℤ) → stateCode below-zero number x out ≡ 7
+none-expected number p x out =
+    demand-1 .state-stepped below-zero number x out .seven-negative (unfold below-zero in refl) (unfold below-zero in unfold streamIn in unfold entryNumber in twelve) below-zero-tail p
+    (unfold below-zero in record { lt = tt })
 
 -- ---- the calls over whole recordings: four blocks, analysed one by one, block 2 by the short route
 played : playedCode 12 3 whole hops-room ≡ 0
 unfolding answers
 played = refl
+
+-- which is what steps under the numbers 0 to 3 return
+pub played-on : Played-on 12 3 whole hops-room (λ b. room)
+played-on = demand-2 .played 12 3 whole hops-room played (λ b. room) (λ b p. unfold room in refl)
 
 abbrev off : ℕ → ℕ → ℕ
 off b k = natAbs (at whole (b * 6 + k) -ℤ at (analyseOut (routes b) 12 (block 12 recording b) room) k)

@@ -39,10 +39,10 @@ pub record SharperBack (N H Q : ℕ) (routes : ℕ → Route) (x out : List ℤ)
   pub near : (i : ℕ) → i < H * (N / 2) → natAbs (at out i -ℤ at x i) ≤ (3 * provedChange Q (routes (i / (N / 2))) (routes (suc (i / (N / 2)))) + 36) / 64
   pub same : Q ≤ 9 → (i : ℕ) → i < H * (N / 2) → routes (i / (N / 2)) ≡ Direct → routes (suc (i / (N / 2))) ≡ Direct → at out i ≡ at x i
 
--- ---- the steps that a synthesis stands for: block after block of X, from block b on, count of them, each with a buffer of its own
+-- ---- the steps that a synthesis stands for: block after block of X, each under its number, from block b on, count of them, each with a buffer of its own
 unfoldable pub offering : ℕ → List ℤ → (ℕ → List ℤ) → ℕ → ℕ → List Offer
 offering N X buffers b zero = []
-offering N X buffers b (suc count) = record { brought = part N X b; buffer = buffers b } ∷ offering N X buffers (suc b) count
+offering N X buffers b (suc count) = record { number = b; brought = part N X b; buffer = buffers b } ∷ offering N X buffers (suc b) count
 
 -- what the buffers of the turns hold, one after the other
 unfoldable pub outputs : List Turn → List ℤ

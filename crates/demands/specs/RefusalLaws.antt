@@ -3,6 +3,7 @@
 use mathlib.Core.Path.{_≡_, refl, ap}
 use mathlib.Core.Logic.{_≢_}
 use mathlib.Core.List.{List, [], _∷_, _++_}
+use Prim.Native.Nat.{ℕ}
 use native.Mathlib.Decide.{ℕ-discrete}
 use lib.IntN.{ℤ}
 use Rattle.stream.specs.declared.Stream.{Stream}
@@ -12,11 +13,13 @@ use Rattle.demands.specs.StepLaws as L
 use Rattle.demands.specs.RunLaws.{code, run-taken, run-refused, after-refused}
 
 -- ---- the next step: its answer and its buffer are those of the stream that the refused step was handed
-pub next-answer : (s : Stream) (x out : List ℤ) → stepCode s x out ≢ 0 → (y room : List ℤ) → step (step s x out .stream) y room ≡ step s y room
-next-answer s x out r y room = rw (L.refused-stream s x out r)
+pub next-answer : (s : Stream) (number : ℕ) (x out : List ℤ) → stepCode s number x out ≢ 0 →
+    (then : ℕ) (y room : List ℤ) → step (step s number x out .stream) then y room ≡ step s then y room
+next-answer s number x out r then y room = rw (L.refused-stream s number x out r)
 
-pub next-buffer : (s : Stream) (x out : List ℤ) → stepCode s x out ≢ 0 → (y room : List ℤ) → stepOut (step s x out .stream) y room ≡ stepOut s y room
-next-buffer s x out r y room = rw (L.refused-stream s x out r)
+pub next-buffer : (s : Stream) (number : ℕ) (x out : List ℤ) → stepCode s number x out ≢ 0 →
+    (then : ℕ) (y room : List ℤ) → stepOut (step s number x out .stream) then y room ≡ stepOut s then y room
+next-buffer s number x out r then y room = rw (L.refused-stream s number x out r)
 
 -- ---- a list without one refused step: the taken ones, and the stream after the list, are the same
 module _ (o : Offer) (rest : List Offer) where

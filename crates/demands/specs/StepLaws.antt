@@ -5,6 +5,7 @@ use mathlib.Core.Bool.{true, cond}
 use mathlib.Core.List.{List}
 use Prim.Native.Nat.{ℕ, zero, suc, _/_, _^_, _*_, _≤_, _<_}
 use native.Mathlib.Omega.{arith}
+use borrow.Author.Tests.{eq-eqb}
 use lib.Dec.{T, eqb, eqb·suc-zero}
 use lib.IntN.{ℤ, pos, negℤ, natAbs}
 use lib.Signed.{leZ}
@@ -14,10 +15,13 @@ use Rattle.arithmetic.specs.TestLaws.{both-make, all-at, all-make, is-true}
 use Rattle.cosine.specs.Kernels.{tabled}
 use Rattle.stream.specs.declared.Stream.{Stream}
 use Rattle.stream.specs.Steps.{next, hop}
+use Rattle.stream.specs.NextLaws.{next-n, next-expected, next-limited}
 use Rattle.checks.specs.Limits.{within, coefficientLimit, tailLimit, inRange}
 use Rattle.stream_calls.specs.Streams.{soundTail, sound, stepCauses, stepCode, step, stepOut}
+use Rattle.stream_calls.specs.StreamLaws.{step-number, step-tabled}
 use Rattle.checks.specs.CauseLaws as C
-use Rattle.checks.specs.CauseLaws.{never, spared, Passed}
+use Rattle.checks.specs.CauseLaws.{first-is, differs, never, spared, Passed}
+use Rattle.checks.specs.Causes.First.{pass}
 use Rattle.checks.specs.LimitLaws.{within-abs}
 
 -- ---- within a limit
@@ -35,35 +39,44 @@ pub code-other : {A : Type 0} (c : ℕ) (x y : A) → c ≢ 0 → cond (eqb c 0)
 code-other zero x y n = absurd (n refl)
 code-other (suc c) x y n = rw (eqb·suc-zero c)
 
-module _ (s : Stream) (x out : List ℤ) where
+module _ (s : Stream) (number : ℕ) (x out : List ℤ) where
   -- 4 only for the stream's own sake
-  pub sound-four : T (sound s) → stepCode s x out ≢ 4
+  pub sound-four : T (sound s) → stepCode s number x out ≢ 4
   unfolding stepCode stepCauses spared
-  sound-four t = never 4 (stepCauses s x out) (λ z. omega arith) (let e : sound s ≡ true = is-true t in rw e tt)
+  sound-four t = never 4 (stepCauses s number x out) (λ z. omega arith) (let e : sound s ≡ true = is-true t in rw e tt)
+
+  -- 7 for the number's sake, and for nothing else
+  pub sound-seven : T (sound s) → number ≢ s .expected → stepCode s number x out ≡ 7
+  unfolding stepCode stepCauses
+  sound-seven t n = first-is (stepCauses s number x out) (pass (is-true t) (differs n))
+
+  pub only-seven : stepCode s number x out ≡ 7 → number ≢ s .expected
+  unfolding stepCode stepCauses spared
+  only-seven e same = never 7 (stepCauses s number x out) (λ z. omega arith) (rw (eq-eqb number (s .expected) same) tt) e
 
   -- a refused step returns the stream handed in, and leaves the buffer
-  module _ (refused : stepCode s x out ≢ 0) where
-    pub refused-stream : step s x out .stream ≡ s
+  module _ (refused : stepCode s number x out ≢ 0) where
+    pub refused-stream : step s number x out .stream ≡ s
     unfolding step
-    refused-stream = code-other (stepCode s x out) (next s x) s refused
+    refused-stream = code-other (stepCode s number x out) (next s x) s refused
 
-    pub refused-buffer : stepOut s x out ≡ out
+    pub refused-buffer : stepOut s number x out ≡ out
     unfolding stepOut
-    refused-buffer = code-other (stepCode s x out) (hop s x) out refused
+    refused-buffer = code-other (stepCode s number x out) (hop s x) out refused
 
   -- a taken one
-  module _ (taken : stepCode s x out ≡ 0) where
-    pub taken-stream : step s x out .stream ≡ next s x
+  module _ (taken : stepCode s number x out ≡ 0) where
+    pub taken-stream : step s number x out .stream ≡ next s x
     unfolding step
-    taken-stream = code-zero (stepCode s x out) (next s x) s taken
+    taken-stream = code-zero (stepCode s number x out) (next s x) s taken
 
-    pub taken-buffer : stepOut s x out ≡ hop s x
+    pub taken-buffer : stepOut s number x out ≡ hop s x
     unfolding stepOut
-    taken-buffer = code-zero (stepCode s x out) (hop s x) out taken
+    taken-buffer = code-zero (stepCode s number x out) (hop s x) out taken
 
     passed : T (inRange (s .n / 2) x)
     unfolding stepCode stepCauses spared Passed
-    passed = C.passed (stepCauses s x out) tt taken .1 .1 .1 .0
+    passed = C.passed (stepCauses s number x out) tt taken .1 .1 .1 .1 .0
 
     pub taken-size : (k : ℕ) → k < s .n / 2 → natAbs (at x k) ≤ coefficientLimit
     unfolding inRange
@@ -75,3 +88,18 @@ unfolding sound soundTail tailLimit
 sound-of s t h =
     both-make (tabled (s .n)) (soundTail s) t
     (all-make (s .n / 2) (λ n. within (at (s .tail) n) (tailLimit (s .n / 2))) (λ n p. abs-within (at (s .tail) n) (tailLimit (s .n / 2)) (h n p)))
+
+-- a taken step leaves a sound stream
+pub taken-sound : (s : Stream) (number : ℕ) (x out : List ℤ) → stepCode s number x out ≡ 0 → T (sound (next s x))
+taken-sound s number x out z =
+    let t = step-tabled s number x out z in
+    let n = next-n (s .n) s refl x in
+    sound-of (next s x) (rw n t) (rw n (next-limited (s .n) t s refl x (taken-size s number x out z)))
+
+-- so after the last number every block is 7
+pub last-number : (s : Stream) (x out : List ℤ) → stepCode s 4294967295 x out ≡ 0 → (number : ℕ) → number < 2 ^ 32 → (y room : List ℤ) →
+    stepCode (step s 4294967295 x out .stream) number y room ≡ 7
+last-number s x out z number p y room =
+    let e = step-number s 4294967295 x out z in
+    rw (taken-stream s 4294967295 x out z)
+    (sound-seven (next s x) number y room (taken-sound s 4294967295 x out z) (λ (f : number ≡ next s x .expected). omega (arith, e, f, p, next-expected (s .n) s refl x)))

@@ -1,4 +1,4 @@
--- Demand 3 for a list of synthesis steps on one stream: definitions. Document 01, 'Sound there and back', and document 02, P1. That they hold together is
+-- Demand 3 for a list of synthesis steps on one stream: definitions. Document 01, 'Sound there and back', and document 02, P1 and P6. That they hold together is
 -- `there-and-back` of ThereAndBackLaws. `fresh`, `step`, `stepOut` and `coefficients` are those that the public calls' contracts cite.
 use mathlib.Core.Path.{_≡_}
 use mathlib.Core.Logic.{_≢_}
@@ -6,7 +6,7 @@ use mathlib.Core.Bool.{cond}
 use mathlib.Core.List.{List, [], _∷_}
 use Prim.Native.Nat.{ℕ, suc, _+_, _-_, _*_, _/_, _%_, _≤_, _<_, max}
 use lib.Dec.{T, eqb}
-use lib.ListN.{length, drop, replicate}
+use lib.ListN.{length, take, drop, replicate}
 use lib.IntN.{ℤ, pos, natAbs, _-ℤ_}
 use Rattle.arithmetic.specs.Lists.{at}
 use Rattle.arithmetic.specs.Rounding.{Sample}
@@ -21,8 +21,9 @@ use Rattle.recording.specs.Recordings.{block}
 use Rattle.stream_calls.specs.Streams.{fresh, step, stepOut}
 
 -- ---- the list of steps
--- what one call of `step` is handed besides the stream: coefficients and a buffer, of any lengths
+-- what one call of `step` is handed besides the stream: a block's number (a call's has 32 bits, which nothing here needs), coefficients and a buffer, of any lengths
 pub record Offer : Type 0 where
+  pub number : ℕ
   pub brought : List ℤ
   pub buffer : List ℤ
 
@@ -37,8 +38,8 @@ unfoldable pub answered : Stream → Offer → Turn
 answered s o = record {
   handed = s;
   offer = o;
-  answer = step s (o .brought) (o .buffer);
-  output = stepOut s (o .brought) (o .buffer);
+  answer = step s (o .number) (o .brought) (o .buffer);
+  output = stepOut s (o .number) (o .brought) (o .buffer);
 }
 
 -- every step is handed the stream that the step before gave back, taken or refused
@@ -88,9 +89,9 @@ pub record Brought (N H Q : ℕ) (routes : ℕ → Route) (x : List ℤ) (b : �
   pub long : length c ≡ N / 2
   pub near : (k : ℕ) → k < N / 2 → natAbs (at c k -ℤ at (coefficients (routes b) N (block N x b)) k) ≤ Q
 
--- the taken steps bring blocks 0, 1, 2 .. in their order. Nothing is said of the refused ones
-pub record InOrder (N H Q : ℕ) (routes : ℕ → Route) (x : List ℤ) (us : List Turn) : Type 0 where
-  pub each : (j : ℕ) (t : Turn) → Entry (taken us) j t → Brought N H Q routes x j (t .offer .brought)
+-- each step that is taken under number b brings block b. Nothing is asked of the order of the offers, of how often a block is offered, or of the refused ones
+pub record Numbered (N H Q : ℕ) (routes : ℕ → Route) (x : List ℤ) (us : List Turn) : Type 0 where
+  pub each : (j : ℕ) (t : Turn) → Entry (taken us) j t → Brought N H Q routes x (t .offer .number) (t .offer .brought)
 
 -- ---- the claim
 -- the units in which a route may lie away from the definition
@@ -102,33 +103,43 @@ unitsOf Short = units
 unfoldable pub change : ℕ → Route → Route → ℕ
 change Q r r′ = Q + max (unitsOf r) (unitsOf r′)
 
--- about a list of steps as a whole, us its turns and last the stream after it
-pub record Returned (N Q : ℕ) (routes : ℕ → Route) (x : List ℤ) (us : List Turn) (last : Stream) : Type 0 where
+-- of a list of steps as a whole, us its turns and last the stream after it, whatever its taken steps bring
+pub record Answered (N : ℕ) (us : List Turn) (last : Stream) : Type 0 where
   -- the stream was made, and no step returns 4
   pub made : fresh N .code ≡ 0
   pub no-four : (i : ℕ) (t : Turn) → Entry us i t → t .answer .code ≢ 4
-  -- a refused step leaves the stream and the buffer as they were
+  -- the taken numbers are 0, 1, 2 .. without a gap
+  pub numbers : (j : ℕ) (t : Turn) → Entry (taken us) j t → t .offer .number ≡ j
+  -- a step is refused with 7 exactly if its number is not the number of steps that were taken before it
+  pub seven : (i : ℕ) (t : Turn) → Entry us i t → t .offer .number ≢ length (taken (take i us)) → t .answer .code ≡ 7
+  pub only-seven : (i : ℕ) (t : Turn) → Entry us i t → t .answer .code ≡ 7 → t .offer .number ≢ length (taken (take i us))
+  -- a refused step leaves the stream and the buffer as they were: a block that is never taken returns no hop
   pub refused-stream : (i : ℕ) (t : Turn) → Entry us i t → t .answer .code ≢ 0 → t .answer .stream ≡ t .handed
   pub refused-buffer : (i : ℕ) (t : Turn) → Entry us i t → t .answer .code ≢ 0 → t .output ≡ t .offer .buffer
   -- a taken one returns a hop of M samples
   pub hop-long : (j : ℕ) (t : Turn) → Entry (taken us) j t → length (t .output) ≡ N / 2
-  -- the taken step that brings block b + 1 returns hop b of the recording, which blocks b and b + 1 share
-  pub hop-near : (b : ℕ) (t : Turn) → Entry (taken us) (suc b) t → (n : ℕ) → n < N / 2 →
-      natAbs (at (t .output) n -ℤ at x (b * (N / 2) + n)) ≤ (change Q (routes b) (routes (suc b)) + 8) / 16
-  pub hop-same : (b : ℕ) (t : Turn) → Entry (taken us) (suc b) t → Q ≤ 7 → routes b ≡ Direct → routes (suc b) ≡ Direct →
-      (n : ℕ) → n < N / 2 → at (t .output) n ≡ at x (b * (N / 2) + n)
-  -- the stream after the list is one of N, and its storage from M on is zero
+  -- the stream after the list is one of N, expects as many as were taken, and its storage from M on is zero
   pub final-n : last .n ≡ N
+  pub final-expected : last .expected ≡ length (taken us)
   pub final-long : length (last .tail) ≡ storage
   pub final-zero : drop (N / 2) (last .tail) ≡ replicate (storage - N / 2) (pos 0)
 
+-- and where each taken step brings the block of its number: the step that is taken under number b + 1 returns hop b of the recording, which blocks b and
+-- b + 1 share
+pub record Returned (N Q : ℕ) (routes : ℕ → Route) (x : List ℤ) (us : List Turn) (last : Stream) : Type 0 where
+  pub answered : Answered N us last
+  pub hop-near : (j : ℕ) (t : Turn) → Entry (taken us) j t → (b : ℕ) → t .offer .number ≡ suc b → (n : ℕ) → n < N / 2 →
+      natAbs (at (t .output) n -ℤ at x (b * (N / 2) + n)) ≤ (change Q (routes b) (routes (suc b)) + 8) / 16
+  pub hop-same : (j : ℕ) (t : Turn) → Entry (taken us) j t → (b : ℕ) → t .offer .number ≡ suc b → Q ≤ 7 → routes b ≡ Direct → routes (suc b) ≡ Direct →
+      (n : ℕ) → n < N / 2 → at (t .output) n ≡ at x (b * (N / 2) + n)
+
 -- in the customer's words: once all H + 1 blocks are taken, every sample of the recording has returned. Sample i is place i % M of hop i / M, and
--- stands there in the buffer of the taken step that brought block i / M + 1
+-- stands there in the buffer of the step that was taken under number i / M + 1
 pub record WholeReturned (N H Q : ℕ) (routes : ℕ → Route) (x : List ℤ) (us : List Turn) : Type 0 where
-  pub near : length (taken us) ≡ H + 1 → (i : ℕ) → i < H * (N / 2) → (t : Turn) × Entry (taken us) (suc (i / (N / 2))) t ×
+  pub near : length (taken us) ≡ H + 1 → (i : ℕ) → i < H * (N / 2) → (t : Turn) × Entry (taken us) (suc (i / (N / 2))) t × (t .offer .number ≡ suc (i / (N / 2))) ×
       (natAbs (at (t .output) (i % (N / 2)) -ℤ at x i) ≤ (change Q (routes (i / (N / 2))) (routes (suc (i / (N / 2)))) + 8) / 16)
   pub same : length (taken us) ≡ H + 1 → Q ≤ 7 → (i : ℕ) → i < H * (N / 2) → routes (i / (N / 2)) ≡ Direct → routes (suc (i / (N / 2))) ≡ Direct →
-      (t : Turn) × Entry (taken us) (suc (i / (N / 2))) t × (at (t .output) (i % (N / 2)) ≡ at x i)
+      (t : Turn) × Entry (taken us) (suc (i / (N / 2))) t × (t .offer .number ≡ suc (i / (N / 2))) × (at (t .output) (i % (N / 2)) ≡ at x i)
 
 -- ---- beyond what is asked, of the same list: (3 Q + 36) / 64, equal up to Q = 9, and 7 units for the short route
 unfoldable pub provedUnits : Route → ℕ
@@ -139,7 +150,7 @@ unfoldable pub provedChange : ℕ → Route → Route → ℕ
 provedChange Q r r′ = Q + max (provedUnits r) (provedUnits r′)
 
 pub record Sharper (N Q : ℕ) (routes : ℕ → Route) (x : List ℤ) (us : List Turn) : Type 0 where
-  pub hop-near : (b : ℕ) (t : Turn) → Entry (taken us) (suc b) t → (n : ℕ) → n < N / 2 →
+  pub hop-near : (j : ℕ) (t : Turn) → Entry (taken us) j t → (b : ℕ) → t .offer .number ≡ suc b → (n : ℕ) → n < N / 2 →
       natAbs (at (t .output) n -ℤ at x (b * (N / 2) + n)) ≤ (3 * provedChange Q (routes b) (routes (suc b)) + 36) / 64
-  pub hop-same : (b : ℕ) (t : Turn) → Entry (taken us) (suc b) t → Q ≤ 9 → routes b ≡ Direct → routes (suc b) ≡ Direct →
+  pub hop-same : (j : ℕ) (t : Turn) → Entry (taken us) j t → (b : ℕ) → t .offer .number ≡ suc b → Q ≤ 9 → routes b ≡ Direct → routes (suc b) ≡ Direct →
       (n : ℕ) → n < N / 2 → at (t .output) n ≡ at x (b * (N / 2) + n)

@@ -1,4 +1,4 @@
--- Demand 3 for a list of synthesis steps, the theorem: `there-and-back`. One induction over the list says what every turn does, a second what the hops are.
+-- Demand 3 for a list of synthesis steps, the theorem: `there-and-back`. Inductions over the list say which numbers are taken, what every turn does, and what the hops are.
 use mathlib.Core.Path.{_≡_, refl, ap, _∙_}
 use mathlib.Core.Logic.{_≢_}
 use mathlib.Core.List.{List, [], _∷_}
@@ -6,7 +6,7 @@ use Prim.Native.Nat.{ℕ, suc, _+_, _*_, _/_, _%_, _^_, _≤_, _<_}
 use native.Mathlib.Omega.{arith}
 use native.Mathlib.Decide.{ℕ-discrete}
 use lib.Dec.{T}
-use lib.ListN.{length}
+use lib.ListN.{length, take}
 use lib.IntN.{ℤ, natAbs, _-ℤ_, _+ℤ_}
 use Rattle.arithmetic.specs.Lists.{at}
 use Rattle.arithmetic.specs.Rounding.{rnd, clamp}
@@ -15,19 +15,86 @@ use Rattle.transform.specs.Synthesis.{V′}
 use Rattle.stream.specs.declared.Stream.{Stream}
 use Rattle.analysis.specs.declared.Route.{Route}
 use Rattle.analysis.specs.declared.Route.the-variants.{Direct}
-use Rattle.stream.specs.Steps.{hop}
+use Rattle.stream.specs.Synthesis as Y
+use Rattle.stream.specs.Steps.{next, hop}
 use Rattle.stream_calls.specs.Streams.{fresh}
-use Rattle.demands.specs.Steps.{Offer, Turn, answered, run, taken, turns, final, Entry, Recording, Brought, InOrder, provedChange, Returned, WholeReturned, Sharper}
+use Rattle.stream_calls.specs.StreamLaws.{step-number}
+use Rattle.demands.specs.Steps.{Offer, Turn, answered, run, after, taken, turns, final, Entry, Recording, Brought, Numbered, provedChange, Answered, Returned, WholeReturned, Sharper}
 use Rattle.demands.specs.Steps.Entry.{first, later}
-use Rattle.demands.specs.StepLaws.{taken-buffer}
-use Rattle.demands.specs.RunLaws.{code, answered-code, refused-stream, refused-buffer, run-taken, run-refused, no-entry, entry-at, entry-taken}
+use Rattle.demands.specs.StepLaws.{taken-buffer, taken-stream, sound-seven, only-seven}
+use Rattle.demands.specs.RunLaws.{code, answered-code, refused-stream, refused-buffer, taken-yes, taken-no, run-taken, run-refused, after-refused, no-entry, entry-at, entry-taken}
 use Rattle.demands.specs.RecordingLaws.{hop-of, back-near, back-same, near-asked}
 use Rattle.stream.specs.NextLaws.{Fine, hop-long, hop-at, next-at}
-use Rattle.demands.specs.StreamLaws.{fresh-is, fine-made, fine-four, fine-answered, fine-after, taken-next}
+use Rattle.demands.specs.StreamLaws.{fresh-is, fine-made, fine-sound, fine-four, fine-answered, fine-after, taken-next}
 
 taken-output : (s : Stream) (o : Offer) → code s o ≡ 0 → answered s o .output ≡ hop s (o .brought)
 unfolding answered
-taken-output s o e = taken-buffer s (o .brought) (o .buffer) e
+taken-output s o e = taken-buffer s (o .number) (o .brought) (o .buffer) e
+
+-- ---- the expected number, step by step
+module _ (s : Stream) (o : Offer) where
+  counted : code s o ≡ 0 → answered s o .answer .stream .expected ≡ s .expected + 1
+  unfolding answered next
+  counted z = ap (λ (r : Stream). r .expected) (taken-stream s (o .number) (o .brought) (o .buffer) z)
+
+  uncounted : code s o ≢ 0 → answered s o .answer .stream .expected ≡ s .expected
+  uncounted r = ap (λ (q : Stream). q .expected) (refused-stream s o r)
+
+  as-expected : code s o ≡ 0 → o .number ≡ s .expected
+  as-expected z = step-number s (o .number) (o .brought) (o .buffer) z
+
+-- a step is handed a stream that expects as many more as were taken before it
+expected-at : (offers : List Offer) (s : Stream) (i : ℕ) (u : Turn) → Entry (run s offers) i u → u .handed .expected ≡ s .expected + length (taken (take i (run s offers)))
+unfolding run taken answered
+expected-at [] s i u e = absurd (no-entry e refl)
+expected-at (o ∷ offers) s i u first = omega arith
+expected-at (o ∷ offers) s i u (later {i = k} e) = go (ℕ-discrete (code s o) 0) (expected-at offers (answered s o .answer .stream) k u e)
+  where
+    rest : List Turn
+    rest = take k (run (answered s o .answer .stream) offers)
+
+    go : Dec (code s o ≡ 0) → u .handed .expected ≡ answered s o .answer .stream .expected + length (taken rest) →
+        u .handed .expected ≡ s .expected + length (taken (answered s o ∷ rest))
+    go (yes z) ih = rw (taken-yes (answered s o) rest (answered-code s o ∙ z)) (omega (arith, ih, counted s o z))
+    go (no r) ih = rw (taken-no (answered s o) rest (rw (answered-code s o) r)) (omega (arith, ih, uncounted s o r))
+
+-- and so does the stream after the list
+expected-after : (offers : List Offer) (s : Stream) → after s offers .expected ≡ s .expected + length (taken (run s offers))
+unfolding run taken after
+expected-after [] s = omega arith
+expected-after (o ∷ offers) s = go (ℕ-discrete (code s o) 0) (expected-after offers)
+  where
+    go : Dec (code s o ≡ 0) → ((s : Stream) → after s offers .expected ≡ s .expected + length (taken (run s offers))) →
+        after s (o ∷ offers) .expected ≡ s .expected + length (taken (run s (o ∷ offers)))
+    go (yes z) ih = rw (run-taken s o offers z) (omega (arith, ih (answered s o .answer .stream), counted s o z))
+    go (no r) ih = rw (run-refused s o offers r, after-refused s o offers r) (ih s)
+
+-- the taken numbers follow one another without a gap
+numbers-from : (offers : List Offer) (s : Stream) (j : ℕ) (u : Turn) → Entry (taken (run s offers)) j u → u .offer .number ≡ s .expected + j
+unfolding run taken
+numbers-from [] s j u e = absurd (no-entry e refl)
+numbers-from (o ∷ offers) s j u e = go (ℕ-discrete (code s o) 0) (numbers-from offers)
+  where
+    goal : Stream → Type 0
+    goal s = (j : ℕ) (u : Turn) → Entry (taken (run s offers)) j u → u .offer .number ≡ s .expected + j
+
+    cases : code s o ≡ 0 → goal (answered s o .answer .stream) → (j : ℕ) (u : Turn) → Entry (answered s o ∷ taken (run (answered s o .answer .stream) offers)) j u →
+        u .offer .number ≡ s .expected + j
+    cases z ih j u first = unfold answered in omega (arith, as-expected s o z)
+    cases z ih j u (later {i = k} f) = omega (arith, ih k u f, counted s o z)
+
+    go : Dec (code s o ≡ 0) → ((s : Stream) → goal s) → u .offer .number ≡ s .expected + j
+    go (yes z) ih = cases z (ih (answered s o .answer .stream)) j u (rw (run-taken s o offers z) at e)
+    go (no r) ih = ih s j u (rw (run-refused s o offers r) at e)
+
+-- from a fresh stream
+fresh-expects : (N : ℕ) → T (tabled N) → fresh N .stream .expected ≡ 0
+unfolding Y.fresh
+fresh-expects N t = rw (fresh-is N t)
+
+numbered-by : (N : ℕ) → T (tabled N) → (offers : List Offer) (j : ℕ) (u : Turn) → Entry (taken (turns N offers)) j u → u .offer .number ≡ j
+unfolding turns
+numbered-by N t offers j u e = omega (arith, fresh-expects N t, numbers-from offers (fresh N .stream) j u e)
 
 module _ (N : ℕ) (t : T (tabled N)) where
   -- ---- every turn of a list, whatever was offered
@@ -36,14 +103,18 @@ module _ (N : ℕ) (t : T (tabled N)) where
     kept-stream : u .answer .code ≢ 0 → u .answer .stream ≡ u .handed
     kept-buffer : u .answer .code ≢ 0 → u .output ≡ u .offer .buffer
     long : u .answer .code ≡ 0 → length (u .output) ≡ N / 2
+    seven : u .offer .number ≢ u .handed .expected → u .answer .code ≡ 7
+    for-number : u .answer .code ≡ 7 → u .offer .number ≢ u .handed .expected
 
   turned : (s : Stream) → Fine N s → (o : Offer) → Turned (answered s o)
   unfolding answered
   turned s fine o = rw (answered-code s o) (record {
-    no-four = fine-four N t s fine (o .brought) (o .buffer);
+    no-four = fine-four N t s fine (o .number) (o .brought) (o .buffer);
     kept-stream = refused-stream s o;
     kept-buffer = refused-buffer s o;
     long = λ e. rw (taken-output s o e) (hop-long N s (fine .n-is) (o .brought));
+    seven = sound-seven s (o .number) (o .brought) (o .buffer) (fine-sound N t s fine);
+    for-number = only-seven s (o .number) (o .brought) (o .buffer);
   })
 
   every-turn : (offers : List Offer) (s : Stream) → Fine N s → (i : ℕ) (u : Turn) → Entry (run s offers) i u → Turned u
@@ -133,52 +204,73 @@ module _ (N : ℕ) (t : T (tabled N)) where
     state-fresh : State 0 (fresh N .stream)
     state-fresh = record { fine = fine-made N t; before = λ b e. absurd (omega arith) }
 
-    all-hops : (offers : List Offer) → InOrder N H Q routes x (turns N offers) → Keep 0 (taken (turns N offers))
+    -- the taken step j brings block j, since j is its number
+    all-hops : (offers : List Offer) → Numbered N H Q routes x (turns N offers) → Keep 0 (taken (turns N offers))
     unfolding turns
-    all-hops offers order =
+    all-hops offers numbered =
         hops offers (fresh N .stream) 0 state-fresh
-        (record { each = λ i u e. let f : 0 + i ≡ i = omega arith in rw f (order .each i u e) })
+        (record { each = λ i u e. let f : u .offer .number ≡ 0 + i = numbered-by N t offers i u e ∙ omega arith in rw f at (numbered .each i u e) })
 
--- the claim about the list as a whole: N is tabled, x is a recording, and the taken steps bring its blocks in their order, changed by at most Q
-pub there-and-back : (N : ℕ) → T (tabled N) → (H Q : ℕ) (routes : ℕ → Route) (x : List ℤ) → Recording N H x →
-    (offers : List Offer) → InOrder N H Q routes x (turns N offers) → Returned N Q routes x (turns N offers) (final N offers)
+-- what holds of every list, whatever its steps bring
+pub every-list : (N : ℕ) → T (tabled N) → (offers : List Offer) → Answered N (turns N offers) (final N offers)
 unfolding turns final
-there-and-back N t H Q routes x rec offers order =
-    let each = every-turn N t offers (fresh N .stream) (fine-made N t) in
-    let hop = all-hops N t H Q routes x rec offers order .each in
-    let last = fine-after N t offers (fresh N .stream) (fine-made N t) in
+every-list N t offers =
+    let s = fresh N .stream in
+    let zero : s .expected ≡ 0 = fresh-expects N t in
+    let each = every-turn N t offers s (fine-made N t) in
+    let last = fine-after N t offers s (fine-made N t) in
     record {
       made = rw (fresh-is N t);
       no-four = λ i u e. each i u e .no-four;
+      numbers = numbered-by N t offers;
+      seven = λ i u e n. each i u e .seven (λ (f : u .offer .number ≡ u .handed .expected). n (omega (arith, f, zero, expected-at offers s i u e)));
+      only-seven = λ i u e z f. each i u e .for-number z (omega (arith, f, zero, expected-at offers s i u e));
       refused-stream = λ i u e. each i u e .kept-stream;
       refused-buffer = λ i u e. each i u e .kept-buffer;
-      hop-long = λ j u e. let f = entry-taken (run (fresh N .stream) offers) j u e in each (f .place) u (f .entry) .long (f .zero-code);
-      hop-near = λ b u e n p. near-asked Q (routes b) (routes (suc b)) (hop (suc b) u e b (omega arith) .near n p);
-      hop-same = λ b u e q. hop (suc b) u e b (omega arith) .same (omega arith);
+      hop-long = λ j u e. let f = entry-taken (run s offers) j u e in each (f .place) u (f .entry) .long (f .zero-code);
       final-n = last .n-is;
+      final-expected = omega (arith, zero, expected-after offers s);
       final-long = last .long;
       final-zero = last .zeros;
     }
 
+-- the claim about the list as a whole: N is tabled, x is a recording, and each step that is taken brings the block of its number, changed by at most Q
+pub there-and-back : (N : ℕ) → T (tabled N) → (H Q : ℕ) (routes : ℕ → Route) (x : List ℤ) → Recording N H x →
+    (offers : List Offer) → Numbered N H Q routes x (turns N offers) → Returned N Q routes x (turns N offers) (final N offers)
+there-and-back N t H Q routes x rec offers numbered =
+    let is = numbered-by N t offers in
+    let hop = all-hops N t H Q routes x rec offers numbered .each in
+    record {
+      answered = every-list N t offers;
+      hop-near = λ j u e b f n p. near-asked Q (routes b) (routes (suc b)) (hop j u e b (omega (arith, f, is j u e)) .near n p);
+      hop-same = λ j u e b f q. hop j u e b (omega (arith, f, is j u e)) .same (omega arith);
+    }
+
 -- once all blocks are taken, every sample has returned
 pub whole-returned : (N : ℕ) → T (tabled N) → (H Q : ℕ) (routes : ℕ → Route) (x : List ℤ) → Recording N H x →
-    (offers : List Offer) → InOrder N H Q routes x (turns N offers) → WholeReturned N H Q routes x (turns N offers)
-whole-returned N t H Q routes x rec offers order =
-    let back = there-and-back N t H Q routes x rec offers order in
+    (offers : List Offer) → Numbered N H Q routes x (turns N offers) → WholeReturned N H Q routes x (turns N offers)
+whole-returned N t H Q routes x rec offers numbered =
+    let back = there-and-back N t H Q routes x rec offers numbered in
     record {
       near = λ all i p.
           let l = hop-of N t H i p in
           let (u, e) = entry-at (taken (turns N offers)) (suc (i / (N / 2))) (omega (arith, all, l .before)) in
-          (u, e, rw (ap (at x) (l .is)) at (back .hop-near (i / (N / 2)) u e (i % (N / 2)) (l .less)));
+          let f = back .answered .numbers (suc (i / (N / 2))) u e in
+          (u, e, f, rw (ap (at x) (l .is)) at (back .hop-near (suc (i / (N / 2))) u e (i / (N / 2)) f (i % (N / 2)) (l .less)));
       same = λ all q i p d d′.
           let l = hop-of N t H i p in
           let (u, e) = entry-at (taken (turns N offers)) (suc (i / (N / 2))) (omega (arith, all, l .before)) in
-          (u, e, back .hop-same (i / (N / 2)) u e q d d′ (i % (N / 2)) (l .less) ∙ ap (at x) (l .is));
+          let f = back .answered .numbers (suc (i / (N / 2))) u e in
+          (u, e, f, back .hop-same (suc (i / (N / 2))) u e (i / (N / 2)) f q d d′ (i % (N / 2)) (l .less) ∙ ap (at x) (l .is));
     }
 
 -- and what is proved of it beyond that
 pub there-and-back-sharper : (N : ℕ) → T (tabled N) → (H Q : ℕ) (routes : ℕ → Route) (x : List ℤ) → Recording N H x →
-    (offers : List Offer) → InOrder N H Q routes x (turns N offers) → Sharper N Q routes x (turns N offers)
-there-and-back-sharper N t H Q routes x rec offers order =
-    let hop = all-hops N t H Q routes x rec offers order .each in
-    record { hop-near = λ b u e. hop (suc b) u e b (omega arith) .near; hop-same = λ b u e. hop (suc b) u e b (omega arith) .same }
+    (offers : List Offer) → Numbered N H Q routes x (turns N offers) → Sharper N Q routes x (turns N offers)
+there-and-back-sharper N t H Q routes x rec offers numbered =
+    let hop = all-hops N t H Q routes x rec offers numbered .each in
+    let is = numbered-by N t offers in
+    record {
+      hop-near = λ j u e b f. hop j u e b (omega (arith, f, is j u e)) .near;
+      hop-same = λ j u e b f. hop j u e b (omega (arith, f, is j u e)) .same;
+    }

@@ -14,7 +14,7 @@ use Rattle.stream.specs.declared.Stream.{Stream}
 use Rattle.stream.specs.Synthesis.{storage, fresh}
 use Rattle.stream.specs.Steps.{next, hop, streamAfter, returned}
 use Rattle.stream.specs.StepLaws.{Bounded}
-use Rattle.stream.specs.NextLaws.{Fine, stream-n}
+use Rattle.stream.specs.NextLaws.{Fine, stream-n, stream-expected}
 use Rattle.analysis.specs.declared.Route.the-variants.{Direct}
 use Rattle.analysis.specs.Analysis.{coefficients}
 use Rattle.recording.specs.Recordings.{silence, block}
@@ -113,6 +113,9 @@ module _ {text : List ℕ} {N H b : ℕ} {buffer : List ℤ} {place : ℕ} {s : 
 
   pub reached-tabled : T (tabled (s .n))
   reached-tabled = rw reached-n (K .length-tabled)
+
+  pub reached-expected : s .expected ≡ b
+  reached-expected = rw (R .stream) (stream-expected N x b)
 
   pub reached-bounded : Bounded (s .n / 2) (s .tail)
   reached-bounded =

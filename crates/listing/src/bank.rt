@@ -1,6 +1,6 @@
 // The hops of a taken listing through the bank: each block is analysed directly, and a stream's step takes its coefficients unchanged.
 ghost use mathlib.Core.Path.{_≡_};
-ghost use Prim.Native.Nat.{_+_, _*_, _/_, _≤_};
+ghost use Prim.Native.Nat.{_+_, _*_, _/_, _^_, _≤_, _<_};
 ghost use lib.Dec.{T};
 ghost use lib.ListN.{length};
 ghost use Rattle.cosine.specs.Kernels.{tabled};
@@ -37,6 +37,7 @@ fn hop_room() -> [i16; HOP]
 // The step of a block: the hop that it returns into `out`, and the stream to go on with.
 fn step(s: Stream, block: &[i16], out: &mut [i16]) -> Stream
     requires { ⌜ T (tabled (s .n)) × Bounded (s .n / 2) (s .tail) × Block (s .n) (now block) × (length (now out) ≡ s .n / 2) ⌝ }
+    requires { ⌜ s .expected < 2 ^ 32 ⌝ }
     ensures { λ r. ⌜ r ≡ next s (coefficients Direct (s .n) (now (block .entry))) ⌝ }
     ensures { λ _. ⌜ now (out .exit) ≡ hop s (coefficients Direct (s .n) (now (block .entry))) ⌝ }
 {

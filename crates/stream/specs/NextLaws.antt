@@ -44,6 +44,10 @@ module _ (N : ℕ) (s : Stream) (e : s .n ≡ N) (x : List ℤ) where
   unfolding next
   next-n = e
 
+  pub next-expected : next s x .expected ≡ s .expected + 1
+  unfolding next
+  next-expected = refl
+
   next-is : next s x .tail ≡ table (N / 2) (λ n. v (N / 2 + n)) ++ drop (N / 2) (s .tail)
   unfolding next S.newTail
   next-is = rw e
@@ -81,11 +85,17 @@ module _ (N : ℕ) (t : T (tabled N)) where
     zeros = drop-replicate (N / 2) storage (pos 0);
   }
 
+  -- a step on coefficients in range leaves a tail within the limit, whatever stood in it
+  pub next-limited : (s : Stream) → s .n ≡ N → (x : List ℤ) → ((k : ℕ) → k < N / 2 → natAbs (at x k) ≤ 2 ^ 29) →
+      (n : ℕ) → n < N / 2 → natAbs (at (next s x .tail) n) ≤ N / 2 * 2 ^ 55
+  next-limited s e x small n p =
+      rw (next-at N s e x n p)
+      (V-size N (rising N) (falling N) (part-of N t) (λ n q. rising-size N n) (λ n q. falling-size N n) x small (N / 2 + n) (omega (arith, part-of N t .four)))
+
   pub fine-next : (s : Stream) → Fine N s → (x : List ℤ) → ((k : ℕ) → k < N / 2 → natAbs (at x k) ≤ 2 ^ 29) → Fine N (next s x)
   fine-next s fine x small = record {
     n-is = next-n N s (fine .n-is) x;
-    limited = λ n p. rw (next-at N s (fine .n-is) x n p)
-        (V-size N (rising N) (falling N) (part-of N t) (λ n q. rising-size N n) (λ n q. falling-size N n) x small (N / 2 + n) (omega (arith, part-of N t .four)));
+    limited = next-limited s (fine .n-is) x small;
     long = next-long N s (fine .n-is) x (omega (arith, room, fine .long)) ∙ fine .long;
     zeros = next-kept N s (fine .n-is) x ∙ fine .zeros;
   }
@@ -96,6 +106,11 @@ module _ (N : ℕ) (blocks : ℕ → List ℤ) where
   unfolding streamAfter S.fresh
   stream-n zero = refl
   stream-n (suc b) = next-n N (streamAfter N blocks b) (stream-n b) (blocks b)
+
+  pub stream-expected : (b : ℕ) → streamAfter N blocks b .expected ≡ b
+  unfolding streamAfter S.fresh
+  stream-expected zero = refl
+  stream-expected (suc b) = next-expected N (streamAfter N blocks b) (stream-n b) (blocks b) ∙ omega (arith, stream-expected b)
 
   pub stream-next : (b : ℕ) → streamAfter N blocks (b + 1) ≡ next (streamAfter N blocks b) (blocks b)
   unfolding streamAfter

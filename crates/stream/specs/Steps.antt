@@ -1,14 +1,14 @@
--- One step of a stream, with the sine window, and the steps from a fresh stream: definitions. Document 01, 'Synthesis stream'.
+-- One step of a stream, with the sine window, and the steps from a fresh stream: definitions. Document 01, 'Synthesis stream', and document 02, P6.
 use mathlib.Core.List.{List}
-use Prim.Native.Nat.{ℕ, zero, suc}
+use Prim.Native.Nat.{ℕ, zero, suc, _+_}
 use lib.IntN.{ℤ}
 use Rattle.cosine.specs.Kernels.{rising, falling}
 use Rattle.stream.specs.declared.Stream.{Stream}
 use Rattle.stream.specs.Synthesis as S
 
--- the stream after a step that was taken, and the hop it returns
+-- the stream after a step that was taken, which expects one more, and the hop it returns
 unfoldable pub next : Stream → List ℤ → Stream
-next s x = record { n = s .n; tail = S.newTail (s .n) (rising (s .n)) (falling (s .n)) (s .tail) x }
+next s x = record { n = s .n; expected = s .expected + 1; tail = S.newTail (s .n) (rising (s .n)) (falling (s .n)) (s .tail) x }
 
 unfoldable pub hop : Stream → List ℤ → List ℤ
 hop s x = S.hop (s .n) (rising (s .n)) (falling (s .n)) (s .tail) x

@@ -12,9 +12,9 @@ use Rattle.stream.specs.declared.Stream.{Stream}
 abbrev pub storage : ℕ
 storage = 108
 
--- a fresh stream has a tail of zeros
+-- a fresh stream expects block 0, and has a tail of zeros
 unfoldable pub fresh : ℕ → Stream
-fresh N = record { n = N; tail = replicate storage (pos 0) }
+fresh N = record { n = N; expected = 0; tail = replicate storage (pos 0) }
 
 -- hop sample n, for n below M: rnd((tail(n) + V(n)) / (N × 2^30)), clamped
 unfoldable pub sample : ℕ → (ℕ → ℤ) → (ℕ → ℤ) → List ℤ → List ℤ → ℕ → ℤ

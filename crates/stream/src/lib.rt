@@ -17,9 +17,11 @@ ghost use Rattle.stream.specs.StepLaws.{Held, Step};
 // Entries of a tail: a hop of the longest block.
 pub const STORAGE: usize = 108;
 
-// A stream, document 01's term: the block length N and a tail of M whole numbers. Storage from M on is zero when fresh, and kept.
+// A stream, document 01's term: the block length N, the number of the block that it expects (document 02, P6; 2^32 for none, behind the last number of 32
+// bits) and a tail of M whole numbers. Storage from M on is zero when fresh, and kept.
 pub struct Stream {
     pub n: usize,
+    pub expected: u64,
     pub tail: [i64; STORAGE],
 }
 
@@ -28,6 +30,7 @@ pub fn fresh(n: usize) -> Stream
 {
     Stream {
         n: n,
+        expected: 0,
         tail: [0; STORAGE],
     }
 }

@@ -1,7 +1,10 @@
-// The public calls on streams: their checks and refusals, in document 01's order, and nothing else. `filter_bank` hands them on.
-// None has a requires: any numbers and any buffer lengths may be handed in.
+// The public calls on streams as values: their checks and refusals, in document 01's order with document 02's 7 in it, and nothing else. `filter_bank` hands
+// them on. None has a requires: any numbers and any buffer lengths may be handed in.
+// `step_tail` is no public call: it is the step that `step` and the calls on states share.
 ghost use mathlib.Core.Path.{_≡_};
-ghost use Rattle.stream_calls.specs.Streams.{fresh, step, stepOut, placeCode, placeTail, placeOut};
+ghost use lib.ListN.{length};
+ghost use Rattle.stream.specs.Synthesis.{storage};
+ghost use Rattle.stream_calls.specs.Streams.{fresh, sound, stepCode, step, stepOut, streamOf};
 use stream::Stream;
 
 // What `fresh` answers: a number, and the stream that was made where it is 0.
@@ -16,7 +19,7 @@ pub struct Stepped {
     pub stream: Stream,
 }
 
-// A fresh stream for blocks of n samples. 1: n is not tabled, and N and every tail entry are 0.
+// A fresh stream for blocks of n samples. 1: n is not tabled, and N, the expected number and every tail entry are 0.
 pub fn fresh(n: usize) -> Made
     ensures { λ r. ⌜ r ≡ fresh n ⌝ }
 {
@@ -33,22 +36,38 @@ pub fn fresh(n: usize) -> Made
     }
 }
 
-// One step in place, for a caller who keeps the tail in a buffer of his own, as the calls for C do: `step` on the stream of n and this
-// tail. 4: n is not tabled. 2: the tail's length is not that of a stream's storage. Then the causes of `step`. Refused, the tail and `out` are left
-// alone; taken, the tail is the new one.
-pub fn step_in_place(n: usize, tail: &mut [i64], x: &[i32], out: &mut [i16]) -> u32
-    ensures { λ r. ⌜ r ≡ placeCode n (now (tail .entry)) (now (x .entry)) (now (out .entry)) ⌝ }
-    ensures { λ _. ⌜ now (tail .exit) ≡ placeTail n (now (tail .entry)) (now (x .entry)) (now (out .entry)) ⌝ }
-    ensures { λ _. ⌜ now (out .exit) ≡ placeOut n (now (tail .entry)) (now (x .entry)) (now (out .entry)) ⌝ }
+// The stream of n and this tail is sound, whatever it expects: cause 4.
+fn is_sound(n: usize, tail: &[i64]) -> bool
+    requires { ⌜ length (now tail) ≡ storage ⌝ }
+    ensures { λ r. ⌜ r ≡ sound (streamOf n 0 (now (tail .entry))) ⌝ }
 {
     if !cosine::is_tabled(n) {
+        return false;
+    }
+    checks::tail_within(tail, n / 2)
+}
+
+// A step on the stream of n, `expected` and this tail, in place: every check, and the work. Refused, the tail and `out` are left alone; taken, the tail is
+// the new one. The expected number is the caller's to move.
+pub fn step_tail(
+    n: usize,
+    expected: u64,
+    number: u32,
+    tail: &mut [i64],
+    x: &[i32],
+    out: &mut [i16],
+) -> u32
+    requires { ⌜ length (now tail) ≡ storage ⌝ }
+    ensures { λ r. ⌜ r ≡ stepCode (streamOf n expected (now (tail .entry))) number (now (x .entry)) (now (out .entry)) ⌝ }
+    ensures { λ _. ⌜ now (tail .exit) ≡ step (streamOf n expected (now (tail .entry))) number (now (x .entry)) (now (out .entry)) .stream .tail ⌝ }
+    ensures { λ _. ⌜ now (out .exit) ≡ stepOut (streamOf n expected (now (tail .entry))) number (now (x .entry)) (now (out .entry)) ⌝ }
+{
+    let sound = is_sound(n, tail);
+    if !sound {
         return 4;
     }
-    if tail.len() != stream::STORAGE {
-        return 2;
-    }
-    if !checks::tail_within(tail, n / 2) {
-        return 4;
+    if number as u64 != expected {
+        return 7;
     }
     if x.len() != n / 2 {
         return 2;
@@ -63,23 +82,30 @@ pub fn step_in_place(n: usize, tail: &mut [i64], x: &[i32], out: &mut [i16]) -> 
     0
 }
 
-// One step of the synthesis stream: M coefficients in, a hop of M samples out. 4: the stream handed in is not sound. 2: a buffer's
-// length is not M. 3: a coefficient is out of range. Refused, the stream comes back as it was, and `out` is left alone.
-pub fn step(s: Stream, x: &[i32], out: &mut [i16]) -> Stepped
-    ensures { λ r. ⌜ r ≡ step s (now (x .entry)) (now (out .entry)) ⌝ }
-    ensures { λ _. ⌜ now (out .exit) ≡ stepOut s (now (x .entry)) (now (out .entry)) ⌝ }
+// One step of the synthesis stream: the number of a block and its M coefficients in, a hop of M samples out. 4: the stream handed in is not sound. 7: the
+// number is not the one that it expects. 2: a buffer's length is not M. 3: a coefficient is out of range. Refused, the stream comes back as it was, and
+// `out` is left alone; taken, it expects one more.
+pub fn step(s: Stream, number: u32, x: &[i32], out: &mut [i16]) -> Stepped
+    ensures { λ r. ⌜ r ≡ step s number (now (x .entry)) (now (out .entry)) ⌝ }
+    ensures { λ _. ⌜ now (out .exit) ≡ stepOut s number (now (x .entry)) (now (out .entry)) ⌝ }
 {
     let n = s.n;
+    let expected = s.expected;
     let mut tail = s.tail;
-    let code = step_in_place(n, &mut tail, x, out);
+    let code = step_tail(n, expected, number, &mut tail, x, out);
     if code != 0 {
         return Stepped {
             code: code,
             stream: s,
         };
     }
+    let then = expected + 1;
     Stepped {
         code: 0,
-        stream: Stream { n: n, tail: tail },
+        stream: Stream {
+            n: n,
+            expected: then,
+            tail: tail,
+        },
     }
 }

@@ -3,7 +3,7 @@
 mod inverse;
 
 ghost use mathlib.Core.Path.{_≡_};
-ghost use Prim.Native.Nat.{_/_, _^_};
+ghost use Prim.Native.Nat.{_+_, _/_, _^_, _<_};
 ghost use lib.Dec.{T};
 ghost use lib.ListN.{length};
 ghost use Rattle.arithmetic.specs.Lists.{Small};
@@ -102,14 +102,20 @@ pub fn advance_tail(n: usize, x: &[i32], tail: &mut [i64], out: &mut [i16])
     advance_216(&x[..108], tail, out);
 }
 
-// One step on valid input: the hop into `out`, and the stream to go on with.
+// One step on valid input: the hop into `out`, and the stream to go on with, which expects one more.
 pub fn advance(s: Stream, x: &[i32], out: &mut [i16]) -> Stream
     requires { ⌜ T (tabled (s .n)) × (length (now x) ≡ s .n / 2) × Small (now x) (2 ^ 29) × (length (now out) ≡ s .n / 2) × Bounded (s .n / 2) (s .tail) ⌝ }
-    ensures { λ r. ⌜ r ≡ record { n = s .n; tail = newTail (s .n) (rising (s .n)) (falling (s .n)) (s .tail) (now (x .entry)) } ⌝ }
+    requires { ⌜ s .expected < 2 ^ 32 ⌝ }
+    ensures { λ r. ⌜ r ≡ record { n = s .n; expected = s .expected + 1; tail = newTail (s .n) (rising (s .n)) (falling (s .n)) (s .tail) (now (x .entry)) } ⌝ }
     ensures { λ r. ⌜ now (out .exit) ≡ hop (s .n) (rising (s .n)) (falling (s .n)) (s .tail) (now (x .entry)) ⌝ }
 {
     let n = s.n;
+    let expected = s.expected + 1;
     let mut tail = s.tail;
     advance_tail(n, x, &mut tail, out);
-    Stream { n: n, tail: tail }
+    Stream {
+        n: n,
+        expected: expected,
+        tail: tail,
+    }
 }

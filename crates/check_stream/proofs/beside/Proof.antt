@@ -1,4 +1,4 @@
--- `beside` is safe and ends: the loop counts the blocks, and the tail keeps its length.
+-- `beside` is safe and ends: the loop counts to the length of the order, and the state keeps its length.
 use mathlib.Core.Path.{_≡_}
 use Prim.Native.Nat.{_-_, _≤_}
 use lib.ListN.{length}
@@ -7,52 +7,46 @@ use Rattle.check_stream.proofs.beside.Statement.{statement}
 use Rattle.check_stream.proofs.beside.Tie as tie
 
 abbrev Inv-loop : tie.InvT-loop
-Inv-loop n m t₀ tail₀ b₀ t tail b = (b ≤ 16) × (108 ≡ length tail)
+Inv-loop n m state₀ order t₀ i₀ i-end state t i = (i ≤ i-end) × (length state ≡ length state₀)
 
 abbrev μ-loop : tie.MeasureT-loop
-μ-loop n m t₀ tail₀ b₀ t tail b = 16 - b
-
-fresh-requires : tie.Need-fresh-requires Inv-loop μ-loop
-fresh-requires c κs = search needs
+μ-loop n m state₀ order t₀ i₀ i-end state t i = i-end - i
 
 loop-holds : tie.Need-loop-holds Inv-loop μ-loop
 loop-holds c = search needs
 
-mul-noise : tie.Need-mul-noise Inv-loop μ-loop
-mul-noise c = search needs
+mul-number : tie.Need-mul-number Inv-loop μ-loop
+mul-number c = search needs
 
-add-noise : tie.Need-add-noise Inv-loop μ-loop
-add-noise c = search needs
+shared-slice-read-number : tie.Need-shared-slice-read-number Inv-loop μ-loop
+shared-slice-read-number c = search needs
 
-span-requires : tie.Need-span-requires Inv-loop μ-loop
-span-requires c κs = search needs
+block-requires : tie.Need-block-requires Inv-loop μ-loop
+block-requires c κs = search needs
 
-noise-requires : tie.Need-noise-requires Inv-loop μ-loop
-noise-requires c κs = search needs
-
-slice-aggregate-refused-in-place : tie.Need-slice-aggregate-refused-in-place Inv-loop μ-loop
-slice-aggregate-refused-in-place c = search needs
+damage-requires : tie.Need-damage-requires Inv-loop μ-loop
+damage-requires c κs = search needs
 
 refused-in-place-requires : tie.Need-refused-in-place-requires Inv-loop μ-loop
 refused-in-place-requires c κs = search needs
 
-slice-aggregate-offer-in-place : tie.Need-slice-aggregate-offer-in-place Inv-loop μ-loop
-slice-aggregate-offer-in-place c = search needs
-
 offer-in-place-requires : tie.Need-offer-in-place-requires Inv-loop μ-loop
 offer-in-place-requires c κs = search needs
 
-offer-requires : tie.Need-offer-requires Inv-loop μ-loop
-offer-requires c κs = search needs
+offer-as-requires : tie.Need-offer-as-requires Inv-loop μ-loop
+offer-as-requires c κs = search needs
 
-add-b : tie.Need-add-b Inv-loop μ-loop
-add-b c = search needs
+add-i : tie.Need-add-i Inv-loop μ-loop
+add-i c = search needs
 
 loop-less : tie.Need-loop-less Inv-loop μ-loop
 loop-less c = search needs
 
 loop-again : tie.Need-loop-again Inv-loop μ-loop
 loop-again c = search needs
+
+same-length : tie.Need-same-length Inv-loop μ-loop
+same-length c = search needs
 
 returns : tie.Need-returns Inv-loop μ-loop
 returns c = search needs
@@ -63,18 +57,16 @@ beside-spec =
     (tie.spec
     Inv-loop
     μ-loop
-    fresh-requires
     loop-holds
-    mul-noise
-    add-noise
-    span-requires
-    noise-requires
-    slice-aggregate-refused-in-place
+    mul-number
+    shared-slice-read-number
+    block-requires
+    damage-requires
     refused-in-place-requires
-    slice-aggregate-offer-in-place
     offer-in-place-requires
-    offer-requires
-    add-b
+    offer-as-requires
+    add-i
     loop-less
     loop-again
+    same-length
     returns)

@@ -20,7 +20,7 @@ use Rattle.listing.specs.VerdictLaws.{Taken}
 use Rattle.listing.specs.Listing.{recording, analysed, returnedHops, rows}
 use Rattle.listing.specs.SizeLaws.{hops-most, row-room}
 use Rattle.listing.specs.BlockLaws.{hopAt}
-use Rattle.listing.specs.StepLaws.{Reached, reached-first, lent-fits, lent-long, lent-two, reached-hop, reached-n, reached-tabled, reached-bounded, shared-fits, shared-long, step-block, step-returned, reached-next}
+use Rattle.listing.specs.StepLaws.{Reached, reached-first, lent-fits, lent-long, lent-two, reached-hop, reached-n, reached-expected, reached-tabled, reached-bounded, shared-fits, shared-long, step-block, step-returned, reached-next}
 use Rattle.listing.proofs.bank.put_rows.Statement.{statement}
 use Rattle.listing.proofs.bank.put_rows.Tie as tie
 
@@ -139,10 +139,13 @@ step-requires : tie.Need-step-requires Inv-loop μ-loop
 step-requires c κs =
     let f = c .before .before in
     let l = line f in (
-      reached-tabled (K l) (S f) (none l),
-      reached-bounded (K l) (S f) (none l),
-      step-block (K l) (S f) (none l) (ys f) (read f),
-      room-long l ∙ ap (λ (n : ℕ). n / 2) (sym (reached-n (K l) (S f) (none l))),
+      (
+        reached-tabled (K l) (S f) (none l),
+        reached-bounded (K l) (S f) (none l),
+        step-block (K l) (S f) (none l) (ys f) (read f),
+        room-long l ∙ ap (λ (n : ℕ). n / 2) (sym (reached-n (K l) (S f) (none l))),
+      ),
+      omega (arith, reached-expected (K l) (S f) (none l)),
     )
 
 loop-holds : tie.Need-loop-holds Inv-loop μ-loop
@@ -243,10 +246,13 @@ step-requires-2 : tie.Need-step-requires-2 Inv-loop μ-loop
 step-requires-2 c κs =
     let r = c .before .before .before in
     let l = lap r in (
-      reached-tabled (Kt l) (inv l .reached) (turn l),
-      reached-bounded (Kt l) (inv l .reached) (turn l),
-      step-block (Kt l) (inv l .reached) (turn l) (zs r) (got r),
-      hop-part l ∙ ap (λ (n : ℕ). n / 2) (sym (reached-n (Kt l) (inv l .reached) (turn l))),
+      (
+        reached-tabled (Kt l) (inv l .reached) (turn l),
+        reached-bounded (Kt l) (inv l .reached) (turn l),
+        step-block (Kt l) (inv l .reached) (turn l) (zs r) (got r),
+        hop-part l ∙ ap (λ (n : ℕ). n / 2) (sym (reached-n (Kt l) (inv l .reached) (turn l))),
+      ),
+      omega (arith, reached-expected (Kt l) (inv l .reached) (turn l), turn l, hops-most (Kt l)),
     )
 
 array-share-prefix-hop : tie.Need-array-share-prefix-hop Inv-loop μ-loop

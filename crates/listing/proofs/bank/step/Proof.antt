@@ -27,7 +27,7 @@ module _ (c : tie.After-spectrum-room) where
   room = c .spectrum-room .result
 
   room≤ : n / 2 ≤ length room
-  room≤ = omega (arith, c .spectrum-room .ensures, length-of n (start .pre .0) .most)
+  room≤ = omega (arith, c .spectrum-room .ensures, length-of n (start .pre .0 .0) .most)
 
   room-long : length (take (n / 2) room) ≡ n / 2
   room-long = length-take-le (n / 2) room room≤
@@ -54,7 +54,7 @@ module _ (c : tie.After-analyse) where
   x-is = c .analyse .ensures
 
   long : length (coefficients Direct N block) ≡ N / 2
-  long = coefficients-long N (start rooms .pre .0) block (start rooms .pre .2)
+  long = coefficients-long N (start rooms .pre .0 .0) block (start rooms .pre .0 .2)
 
   x-long : length x ≡ N / 2
   x-long = ap length x-is ∙ long
@@ -75,7 +75,7 @@ slice-aggregate-analyse : tie.Need-slice-aggregate-analyse
 slice-aggregate-analyse c = sym (room-long (c .before))
 
 analyse-requires : tie.Need-analyse-requires
-analyse-requires c κs = let s = start (c .before) in (s .pre .0, s .pre .2 .long, room-long (c .before))
+analyse-requires c κs = let s = start (c .before) in (s .pre .0 .0, s .pre .0 .2 .long, room-long (c .before))
 
 array-share-prefix-x : tie.Need-array-share-prefix-x
 array-share-prefix-x c = let a = c .before in omega (arith, length-append (x a) (beyond a), x-long a)
@@ -87,7 +87,7 @@ advance-requires : tie.Need-advance-requires
 advance-requires c κs =
     let a = c .before .before .before in
     let s = start (rooms a) in
-    (s .pre .0, brought-long a, rw (brought a) (coefficients-small (N a) (s .pre .0) (block a) (s .pre .2)), s .pre .3, s .pre .1)
+    ((s .pre .0 .0, brought-long a, rw (brought a) (coefficients-small (N a) (s .pre .0 .0) (block a) (s .pre .0 .2)), s .pre .0 .3, s .pre .0 .1), s .pre .1)
 
 same-length : tie.Need-same-length
 same-length c = search needs

@@ -1,3 +1,0 @@
-pub mod Face
-pub mod FaceLaws
-pub mod StateLaws

@@ -1,0 +1,157 @@
+-- Laws of the stream that a state holds: what the calls on a state answer by their causes; a fresh state holds the stream that `fresh` makes, and a step leaves
+-- the state of the stream that `step` gives back, with the same number and the same hop.
+use mathlib.Core.Path.{_≡_, refl, sym, ap, _∙_}
+use mathlib.Core.Logic.{_≢_}
+use mathlib.Core.Bool.{Bool, true, false, cond}
+use mathlib.Core.List.{List, [], _∷_, _++_, append-nil}
+use Prim.Native.Nat.{ℕ, _+_, _-_, _≤_}
+use native.Mathlib.Nat.{not-suc-le-zero}
+use native.Mathlib.Omega.{arith}
+use borrow.Author.Tests.{le-ltb, ne-eqb}
+use borrow.Rule.Slice.PartMut.{putMid}
+use lib.Dec.{T, eqb, eqb→eq}
+use lib.ListN.{length, length-drop, length-replicate, take, drop, set, drop-of-length-le, take-append-drop}
+use lib.IntN.{ℤ, pos, negsuc}
+use Rattle.arithmetic.specs.Lists.{at, table}
+use Rattle.arithmetic.specs.TestLaws.{is-true}
+use Rattle.cosine.specs.Kernels.{tabled}
+use Rattle.cosine.specs.LengthLaws.{length-of}
+use Rattle.stream.specs.declared.Stream.{Stream}
+use Rattle.stream.specs.Synthesis as Y
+use Rattle.stream.specs.Steps.{next, hop}
+use Rattle.stream.specs.NextLaws.{next-long}
+use Rattle.checks.specs.Causes.{First}
+use Rattle.checks.specs.CauseLaws.{first-is, is-first, same, differs, spared, Passed, passed, leaves}
+use Rattle.stream_calls.specs.Streams as S
+use Rattle.stream_calls.specs.StreamLaws.{step-number, step-tabled}
+use Rattle.state_calls.specs.States.{entries, none, numberIn, streamIn, stateOf, freshCauses, freshCode, freshState, stepCauses, stepCode, stepState, stepOut}
+
+-- ---- numbers in entries
+number-pos : (n other : ℕ) → numberIn (pos n) other ≡ n
+unfolding numberIn
+number-pos n other = rw (le-ltb n 0 (omega arith))
+
+-- a number that does not stand for a negative one is the entry's own
+number-own : (z : ℤ) → numberIn z 0 ≢ 0 → z ≡ pos (numberIn z 0)
+unfolding numberIn
+number-own (pos n) h = rw (le-ltb n 0 (omega arith))
+number-own (negsuc n) h = absurd (h refl)
+
+pub state-holds : (s : Stream) → streamIn (stateOf s) ≡ s
+unfolding streamIn stateOf
+state-holds s = rw (number-pos (s .n) 0, number-pos (s .expected) none)
+
+-- ---- a fresh state: N written to one of zeros
+pub fresh-made : (N : ℕ) → set (table entries (λ _. pos 0)) 0 (pos N) ≡ stateOf (Y.fresh N)
+unfolding table stateOf Y.fresh
+fresh-made N = refl
+
+module _ (N : ℕ) (state : List ℤ) where
+  -- for k = 0 a fresh stream, for every other k what the state held
+  pub fresh-answer : {k : ℕ} → First (freshCauses N state) k → (k ≡ freshCode N state) × (cond (eqb k 0) (stateOf (Y.fresh N)) state ≡ freshState N state)
+  unfolding freshCode freshState
+  fresh-answer f = let cs = freshCauses N state in (sym (first-is cs f), leaves cs (stateOf (Y.fresh N)) state f)
+
+  module _ (z : freshCode N state ≡ 0) where
+    pub fresh-tabled : T (tabled N)
+    unfolding freshCode freshCauses spared Passed
+    fresh-tabled = passed (freshCauses N state) tt z .0
+
+    taken-state : freshState N state ≡ stateOf (Y.fresh N)
+    unfolding freshState
+    taken-state = rw z
+
+    pub fresh-holds : streamIn (freshState N state) ≡ S.fresh N .stream
+    unfolding S.fresh
+    fresh-holds = let e : tabled N ≡ true = is-true fresh-tabled in rw (taken-state, e) (state-holds (Y.fresh N))
+
+    pub fresh-long : length (freshState N state) ≡ entries
+    unfolding stateOf Y.fresh
+    fresh-long = rw taken-state (let e = length-replicate Y.storage (pos 0) in omega (arith, e))
+
+-- ---- what the code writes: ys behind the first two entries, and v in the second
+pub put-tail : (xs ys : List ℤ) → putMid 2 (length xs - 2) xs ys ≡ take 2 xs ++ ys
+put-tail xs ys =
+    let e : drop (length xs - 2) (drop 2 xs) ≡ [] = drop-of-length-le (drop 2 xs) {i = length xs - 2} (omega (arith, length-drop 2 xs)) in
+    ap (λ (z : List ℤ). take 2 xs ++ z) (ap (λ (z : List ℤ). ys ++ z) e ∙ append-nil ys)
+
+set-second : (xs ys : List ℤ) (v : ℤ) → 2 ≤ length xs → set (take 2 xs ++ ys) 1 v ≡ at xs 0 ∷ v ∷ ys
+set-second [] ys v h = absurd (not-suc-le-zero h)
+set-second (a ∷ []) ys v h = absurd (omega arith)
+set-second (a ∷ b ∷ xs) ys v h = refl
+
+-- ---- a step
+module _ (state : List ℤ) (number : ℕ) (x out : List ℤ) where
+  abbrev s : Stream
+  s = streamIn state
+
+  abbrev code : ℕ
+  code = stepCode state number x out
+
+  pub step-2 : length state ≢ entries → (2 ≡ code) × ((state ≡ stepState state number x out) × (out ≡ stepOut state number x out))
+  unfolding stepCode stepCauses stepState stepOut
+  step-2 a =
+      let cs = stepCauses state number x out in
+      let f : First cs 2 = differs a in
+      (sym (first-is cs f), (leaves cs (stateOf (next s x)) state f, leaves cs (hop s x) out f))
+
+  -- on a state of the right length it is `step` by value
+  module _ (a : length state ≡ entries) where
+    pub same-code : code ≡ S.stepCode s number x out
+    unfolding stepCode stepCauses S.stepCode
+    same-code = first-is (stepCauses state number x out) (same a (is-first (S.stepCauses s number x out)))
+
+    pub same-out : stepOut state number x out ≡ S.stepOut s number x out
+    unfolding stepOut S.stepOut
+    same-out = rw same-code
+
+    pub same-stream : streamIn (stepState state number x out) ≡ S.step s number x out .stream
+    unfolding stepState S.step
+    same-stream = rw same-code (by-test (eqb (S.stepCode s number x out) 0))
+      where
+        by-test : (b : Bool) → streamIn (cond b (stateOf (next s x)) state) ≡ cond b (next s x) s
+        by-test true = state-holds (next s x)
+        by-test false = refl
+
+    pub refused-state : code ≢ 0 → take 2 state ++ S.step s number x out .stream .tail ≡ stepState state number x out
+    unfolding stepState S.step streamIn
+    refused-state n =
+        let e = ne-eqb code 0 n in
+        let f = ne-eqb (S.stepCode s number x out) 0 (λ z. n (same-code ∙ z)) in
+        rw (e, f) (take-append-drop 2 state)
+
+    module _ (z : code ≡ 0) where
+      zero-code : S.stepCode s number x out ≡ 0
+      zero-code = sym same-code ∙ z
+
+      taken-tabled : T (tabled (s .n))
+      taken-tabled = step-tabled s number x out zero-code
+
+      pub taken-number : number ≡ s .expected
+      taken-number = step-number s number x out zero-code
+
+      -- N is as it was
+      own : at state 0 ≡ pos (s .n)
+      unfolding streamIn
+      own = number-own (at state 0) (λ e. let h = length-of (s .n) taken-tabled .some in absurd (omega (arith, h, e)))
+
+      pub taken-state-is : set (take 2 state ++ S.step s number x out .stream .tail) 1 (pos (number + 1)) ≡ stepState state number x out
+      unfolding stepState S.step stateOf next
+      taken-state-is =
+          let e = own in
+          let f = taken-number in
+          set-second state (S.step s number x out .stream .tail) (pos (number + 1)) (omega (arith, a)) ∙ rw (z, zero-code, e, f)
+
+      taken-long : length (stateOf (next s x)) ≡ entries
+      unfolding stateOf streamIn
+      taken-long =
+          let l : length (s .tail) ≡ Y.storage = omega (arith, length-drop 2 state, a) in
+          omega (arith, l, next-long (s .n) s refl x (omega (arith, l, length-of (s .n) taken-tabled .most)))
+
+    pub same-long : length (stepState state number x out) ≡ entries
+    unfolding stepState
+    same-long = by-test (eqb code 0) refl
+      where
+        by-test : (b : Bool) → eqb code 0 ≡ b → length (cond b (stateOf (next s x)) state) ≡ entries
+        by-test true e = taken-long (eqb→eq code 0 (rw e tt))
+        by-test false e = a

@@ -1,0 +1,71 @@
+// The public calls on a stream that its caller keeps in a state, an array of whole numbers: N, the expected number and then the tail. So a stream crosses to
+// C, and a step copies no tail. Their checks and refusals, and nothing else; `filter_bank` hands them on.
+// None has a requires: any numbers and any lengths may be handed in.
+ghost use mathlib.Core.Path.{_≡_};
+ghost use lib.ListN.{length};
+ghost use lib.IntN.{pos};
+ghost use Rattle.arithmetic.specs.Lists.{table};
+ghost use Rattle.state_calls.specs.States.{entries, numberIn, freshCode, freshState, stepCode, stepState, stepOut};
+
+// Entries of a state.
+pub const ENTRIES: usize = 2 + stream::STORAGE;
+
+// The least number that no block has: 2^32.
+const NONE: u64 = 4294967296;
+
+// The number in an entry. A negative one stands as `other`.
+fn number_in(entry: i64, other: u64) -> u64
+    ensures { λ r. ⌜ r ≡ numberIn entry other ⌝ }
+{
+    if entry < 0 {
+        return other;
+    }
+    entry as u64
+}
+
+// A state of zeros.
+fn clear(state: &mut [i64])
+    requires { ⌜ length (now state) ≡ entries ⌝ }
+    ensures { λ _. ⌜ now (state .exit) ≡ table entries (λ _. pos 0) ⌝ }
+{
+    for i in 0..ENTRIES {
+        state[i] = 0;
+    }
+}
+
+// A fresh stream for blocks of n samples, in a state. 1: n is not tabled. 2: the state's length is another. Refused, the state is left alone.
+pub fn fresh_in_place(n: usize, state: &mut [i64]) -> u32
+    ensures { λ r. ⌜ r ≡ freshCode n (now (state .entry)) ⌝ }
+    ensures { λ _. ⌜ now (state .exit) ≡ freshState n (now (state .entry)) ⌝ }
+{
+    if !cosine::is_tabled(n) {
+        return 1;
+    }
+    if state.len() != ENTRIES {
+        return 2;
+    }
+    clear(state);
+    state[0] = n as i64;
+    0
+}
+
+// One step on the stream that a state holds, in place. 2: the state's length is another, before every other cause, since nothing of such a state can be
+// read. Then the causes of `step`. Refused, the state and `out` are left alone; taken, N stays, the state expects one more, and the tail is the new one.
+pub fn step_in_place(state: &mut [i64], number: u32, x: &[i32], out: &mut [i16]) -> u32
+    ensures { λ r. ⌜ r ≡ stepCode (now (state .entry)) number (now (x .entry)) (now (out .entry)) ⌝ }
+    ensures { λ _. ⌜ now (state .exit) ≡ stepState (now (state .entry)) number (now (x .entry)) (now (out .entry)) ⌝ }
+    ensures { λ _. ⌜ now (out .exit) ≡ stepOut (now (state .entry)) number (now (x .entry)) (now (out .entry)) ⌝ }
+{
+    if state.len() != ENTRIES {
+        return 2;
+    }
+    let n = number_in(state[0], 0) as usize;
+    let expected = number_in(state[1], NONE);
+    let code = stream_calls::step_tail(n, expected, number, &mut state[2..], x, out);
+    if code != 0 {
+        return code;
+    }
+    let then = number as u64 + 1;
+    state[1] = then as i64;
+    0
+}
