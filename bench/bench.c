@@ -23,17 +23,18 @@
 #include <libavutil/tx.h>
 #endif
 
-/* the most hops of a recording */
-enum { LONGEST = 4095 };
+/* the most hops of a recording, and room for the coefficients of a batch */
+enum { LONGEST = 4095, BATCH = 4096 };
 
 /* blocks of a batch, for some tens of microseconds at each length; a sixteenth of them still is a recording */
 static const size_t batches[LENGTHS] = {512, 256, 128, 64, 32, 32};
 
-/* For each length a recording of random samples between two hops of zeros, its coefficients by direct analysis, and room for every result.
- * The last hop of a batch is zeros too, so that its blocks are those of a recording of its own, of one hop fewer. Sound begins with the run-in,
- * so that each sample returns at its place in the padded recording. */
+/* For each length a recording of random samples between two hops of zeros, its coefficients by direct analysis at long joints, those of a batch at
+ * short joints, and room for every result. The last hop of a batch is zeros too, so that its blocks are those of a recording of its own, of one
+ * hop fewer. Sound begins with the run-in, so that each sample returns at its place in the padded recording. */
 static int16_t all_padded[LENGTHS][(LONGEST + 2) * MOST_M], *padded;
 static int32_t all_spectra[LENGTHS][(LONGEST + 1) * MOST_M], *spectra;
+static int32_t all_short_joints[LENGTHS][BATCH], *short_joints;
 static int32_t coefficients[(LONGEST + 1) * MOST_M];
 static int16_t sound[(LONGEST + 1) * MOST_M];
 static int64_t tail[MOST_M];
@@ -46,10 +47,10 @@ static uint32_t refused;
         refused |= whose.call(n, blocks, padded, coefficients);               \
     }
 
-#define SYNTHESIS(whose, call)                                                \
+#define SYNTHESIS(whose, call, from)                                          \
     static void whose##_##call(size_t n, size_t blocks)                       \
     {                                                                         \
-        refused |= whose.call(n, blocks, spectra, sound);                     \
+        refused |= whose.call(n, blocks, from, sound);                        \
     }
 
 #define CALLS(whose)                                                          \
@@ -57,8 +58,8 @@ static uint32_t refused;
     ANALYSIS(whose, by_short_route)                                           \
     ANALYSIS(whose, recording_direct)                                         \
     ANALYSIS(whose, recording_short)                                          \
-    SYNTHESIS(whose, step)                                                    \
-    SYNTHESIS(whose, synthesis)
+    SYNTHESIS(whose, step, spectra)                                           \
+    SYNTHESIS(whose, synthesis, spectra)
 
 /* Whether it takes length l at all, and by the short route: a block is refused with 1 where it does not. */
 #define OFFERS(whose)                                                         \
@@ -73,6 +74,9 @@ static uint32_t refused;
 
 CALLS(library)
 OFFERS(library)
+ANALYSIS(library, direct_short_joints)
+ANALYSIS(library, by_short_route_short_joints)
+SYNTHESIS(library, step_short_joints, short_joints)
 #ifdef BEFORE
 /* the same calls of an earlier commit */
 extern const struct library before;
@@ -84,7 +88,7 @@ OFFERS(before)
     static void run_##call(size_t n, size_t blocks)                           \
     {                                                                         \
         for (size_t b = 0; b < blocks; b++)                                   \
-            call(n, padded + b * (n / 2), coefficients + b * (n / 2));        \
+            call(n, 0, 0, padded + b * (n / 2), coefficients + b * (n / 2));  \
     }
 
 #define PLAIN_STEP(call)                                                      \
@@ -92,7 +96,7 @@ OFFERS(before)
     {                                                                         \
         memset(tail, 0, sizeof tail);                                         \
         for (size_t b = 0; b < blocks; b++)                                   \
-            call(n, tail, spectra + b * (n / 2), sound + b * (n / 2));        \
+            call(n, 0, 0, tail, spectra + b * (n / 2), sound + b * (n / 2));  \
     }
 
 PLAIN_ANALYSIS(plain_o3_analyse_direct)
@@ -229,7 +233,7 @@ static void avtx_synthesis(size_t n, size_t blocks)
 #endif
 
 /* What a contender's result is held to before it is timed. */
-enum result { COEFFICIENTS, NEAR_COEFFICIENTS, FLOAT_COEFFICIENTS, SOUND, FLOAT_SOUND };
+enum result { COEFFICIENTS, NEAR_COEFFICIENTS, FLOAT_COEFFICIENTS, SHORT_JOINTS, NEAR_SHORT_JOINTS, SOUND, FLOAT_SOUND };
 
 struct contender {
     const char *name;
@@ -252,6 +256,8 @@ static struct contender contenders[] = {
     {name ", step", whose##_step, whose##_offers, SOUND, 0, {0}, {0}},        \
     {name ", recording, synthesis", whose##_synthesis, whose##_offers, SOUND, 0, {0}, {0}}
     ANALYSES("library", library),
+    {"library, direct, short joints", library_direct_short_joints, library_offers, SHORT_JOINTS, 0, {0}, {0}},
+    {"library, short route, short joints", library_by_short_route_short_joints, library_offers_short, NEAR_SHORT_JOINTS, 0, {0}, {0}},
 #ifdef BEFORE
     ANALYSES("before", before),
 #endif
@@ -266,6 +272,7 @@ static struct contender contenders[] = {
     {"FFmpeg av_tx MDCT (float)", avtx_analysis, avtx_offers, FLOAT_COEFFICIENTS, 0, {0}, {0}},
 #endif
     SYNTHESES("library", library),
+    {"library, step, short joints", library_step_short_joints, library_offers, SOUND, 0, {0}, {0}},
 #ifdef BEFORE
     SYNTHESES("before", before),
 #endif
@@ -302,7 +309,9 @@ static void prepare(void)
         }
         memset(all_padded[l] + batches[l] * m, 0, m * sizeof padded[0]);
         for (size_t b = 0; b <= LONGEST; b++)
-            plain_o3_analyse_direct(n, all_padded[l] + b * m, all_spectra[l] + b * m);
+            plain_o3_analyse_direct(n, 0, 0, all_padded[l] + b * m, all_spectra[l] + b * m);
+        for (size_t b = 0; b < batches[l]; b++)
+            plain_o3_analyse_direct(n, b > 0, 1, all_padded[l] + b * m, all_short_joints[l] + b * m);
         for (size_t i = 0; i < n; i++)
             windows[l][i] = (float)sin(3.141592653589793 * (double)(2 * i + 1) / (double)(2 * n));
 #ifdef HAVE_FFTW
@@ -319,6 +328,7 @@ static void turn_to(int l)
 {
     padded = all_padded[l];
     spectra = all_spectra[l];
+    short_joints = all_short_joints[l];
     window = windows[l];
 #ifdef HAVE_FFTW
     plan = plans[l];
@@ -345,11 +355,14 @@ static void verify(struct contender *c, int l)
     c->run(n, blocks);
     for (size_t i = 0; i < blocks * m; i++) {
         long apart = labs((long)coefficients[i] - spectra[i]);
+        long apart_short = labs((long)coefficients[i] - short_joints[i]);
         long off = i < m ? 0 : labs((long)sound[i] - padded[i]);
         switch (c->result) {
         case COEFFICIENTS: wrong |= apart != 0; break;
         case NEAR_COEFFICIENTS: wrong |= apart > 16; break;
         case FLOAT_COEFFICIENTS: wrong |= apart > 64; break;
+        case SHORT_JOINTS: wrong |= apart_short != 0; break;
+        case NEAR_SHORT_JOINTS: wrong |= apart_short > 16; break;
         case SOUND: wrong |= off != 0; break;
         case FLOAT_SOUND: wrong |= off > 1; break;
         }
@@ -444,11 +457,14 @@ static void print_ratios(void)
     print_ratio("library, direct", "plain C, folded, -O3 -march=native");
     print_ratio("library, direct", "plain C, direct, -O3");
     print_ratio("library, short route", "library, direct");
+    print_ratio("library, direct, short joints", "library, direct");
+    print_ratio("library, short route, short joints", "library, short route");
     print_ratio("library, recording, direct", "library, direct");
     print_ratio("library, recording, short route", "library, short route");
     print_ratio("library, step", "plain C, step, folded, -O3");
     print_ratio("library, step", "plain C, step, folded, -O3 -march=native");
     print_ratio("library, step", "plain C, step, direct, -O3");
+    print_ratio("library, step, short joints", "library, step");
     print_ratio("library, recording, synthesis", "library, step");
 #ifdef HAVE_FFTW
     print_ratio("library, direct", "FFTW REDFT11 (float)");

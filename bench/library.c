@@ -2,21 +2,32 @@
 #include "library.h"
 #include "dapplescree.h"
 
-static uint32_t direct(size_t n, size_t blocks, const int16_t *padded, int32_t *coefficients)
-{
-    uint32_t refused = 0;
-    for (size_t b = 0; b < blocks; b++)
-        refused |= dapplescree_analyse_direct(n, padded + b * (n / 2), n, coefficients + b * (n / 2), n / 2);
-    return refused;
-}
+#define ANALYSIS(name, call, shape)                                                                                       \
+    static uint32_t name(size_t n, size_t blocks, const int16_t *padded, int32_t *coefficients)                           \
+    {                                                                                                                     \
+        uint32_t refused = 0;                                                                                             \
+        for (size_t b = 0; b < blocks; b++)                                                                               \
+            refused |= call(n, b > 0 ? shape : 0, shape, padded + b * (n / 2), n, coefficients + b * (n / 2), n / 2);     \
+        return refused;                                                                                                   \
+    }
 
-static uint32_t by_short_route(size_t n, size_t blocks, const int16_t *padded, int32_t *coefficients)
-{
-    uint32_t refused = 0;
-    for (size_t b = 0; b < blocks; b++)
-        refused |= dapplescree_analyse_short(n, padded + b * (n / 2), n, coefficients + b * (n / 2), n / 2);
-    return refused;
-}
+#define STEP(name, shape)                                                                                                 \
+    static uint32_t name(size_t n, size_t blocks, const int32_t *spectra, int16_t *sound)                                 \
+    {                                                                                                                     \
+        static int64_t state[DAPPLESCREE_STATE];                                                                          \
+        uint32_t refused = dapplescree_stream_fresh(n, state, DAPPLESCREE_STATE);                                         \
+        for (size_t b = 0; b < blocks; b++)                                                                               \
+            refused |= dapplescree_stream_step(state, DAPPLESCREE_STATE, (uint32_t)b, b > 0 ? shape : 0, shape,           \
+                                               spectra + b * (n / 2), n / 2, sound + b * (n / 2), n / 2);                 \
+        return refused;                                                                                                   \
+    }
+
+ANALYSIS(direct, dapplescree_analyse_direct, 0)
+ANALYSIS(direct_short_joints, dapplescree_analyse_direct, 1)
+ANALYSIS(by_short_route, dapplescree_analyse_short, 0)
+ANALYSIS(by_short_route_short_joints, dapplescree_analyse_short, 1)
+STEP(step, 0)
+STEP(step_short_joints, 1)
 
 static uint32_t recording_direct(size_t n, size_t blocks, const int16_t *padded, int32_t *coefficients)
 {
@@ -30,15 +41,6 @@ static uint32_t recording_short(size_t n, size_t blocks, const int16_t *padded, 
     return dapplescree_analyse_recording_short(n, hops, padded + m, hops * m, coefficients, blocks * m);
 }
 
-static uint32_t step(size_t n, size_t blocks, const int32_t *spectra, int16_t *sound)
-{
-    static int64_t state[DAPPLESCREE_STATE];
-    uint32_t refused = dapplescree_stream_fresh(n, state, DAPPLESCREE_STATE);
-    for (size_t b = 0; b < blocks; b++)
-        refused |= dapplescree_stream_step(state, DAPPLESCREE_STATE, (uint32_t)b, spectra + b * (n / 2), n / 2, sound + b * (n / 2), n / 2);
-    return refused;
-}
-
 /* the run-in is no part of a recording's sound */
 static uint32_t synthesis(size_t n, size_t blocks, const int32_t *spectra, int16_t *sound)
 {
@@ -46,4 +48,6 @@ static uint32_t synthesis(size_t n, size_t blocks, const int32_t *spectra, int16
     return dapplescree_synthesise_recording(n, hops, spectra, blocks * m, sound + m, hops * m);
 }
 
-const struct library library = {direct, by_short_route, recording_direct, recording_short, step, synthesis};
+const struct library library = {
+    direct, by_short_route, recording_direct, recording_short, step, synthesis, direct_short_joints, by_short_route_short_joints, step_short_joints,
+};

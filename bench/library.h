@@ -1,5 +1,5 @@
-/* The library's calls over a batch of blocks, as bench.c times them: each returns the refusals, or'ed. A checkout of an earlier commit is timed beside this one under the
- * name `before`, by its own library.c, for the calls as they were. */
+/* The library's calls over a batch of blocks, as bench.c times them: each returns the refusals, or'ed. A checkout of an earlier commit is timed
+ * beside this one under the name `before`, by its own library.c, for the calls as they were: so what is new goes to the end, and is not asked of it. */
 #include <stddef.h>
 #include <stdint.h>
 
@@ -12,6 +12,10 @@ struct library {
     /* n, blocks, their coefficients, a hop of sound for each block */
     uint32_t (*step)(size_t, size_t, const int32_t *, int16_t *);
     uint32_t (*synthesis)(size_t, size_t, const int32_t *, int16_t *);
+    /* the same at short joints, where those above are at long ones; the first block's left joint is long, as a fresh stream expects it */
+    uint32_t (*direct_short_joints)(size_t, size_t, const int16_t *, int32_t *);
+    uint32_t (*by_short_route_short_joints)(size_t, size_t, const int16_t *, int32_t *);
+    uint32_t (*step_short_joints)(size_t, size_t, const int32_t *, int16_t *);
 };
 
 extern const struct library library;

@@ -12,15 +12,15 @@
 
 #define INLINE static inline __attribute__((always_inline))
 
-/* For each length, the window W(n), the kernel K(n,k) by rows of n and by rows of k, and the folded kernel F(j,k) = C(d(2j+1)(2k+1)), which
- * is symmetric. */
+/* For each length, the window W(n) of two long joints and behind it that of two short ones, the kernel K(n,k) by rows of n and by rows of k, and
+ * the folded kernel F(j,k) = C(d(2j+1)(2k+1)), which is symmetric. */
 struct tables {
-    int32_t *window, *kernel, *turned, *folded;
+    int32_t *windows, *kernel, *turned, *folded;
 };
 
-#define TABLES(n, ...)                                                                                 \
-    static int32_t window_##n[n], kernel_##n[n * n / 2], turned_##n[n * n / 2], folded_##n[n * n / 4]; \
-    static const struct tables tables_##n = {window_##n, kernel_##n, turned_##n, folded_##n};
+#define TABLES(n, ...)                                                                                      \
+    static int32_t windows_##n[2 * n], kernel_##n[n * n / 2], turned_##n[n * n / 2], folded_##n[n * n / 4]; \
+    static const struct tables tables_##n = {windows_##n, kernel_##n, turned_##n, folded_##n};
 EACH_LENGTH(TABLES, )
 
 static int32_t cosine(long t)
@@ -29,11 +29,19 @@ static int32_t cosine(long t)
     return (int32_t)lround(67108864 * cos(6.283185307179586 * (double)t / 864));
 }
 
+/* entry i of a short joint's rising half: a third of zeros, a third that rises, a third of ones */
+static int32_t short_rise(long i, long third)
+{
+    return i < third ? 0 : i < 2 * third ? cosine(216 - 108 / third * (2 * (i - third) + 1)) : 67108864;
+}
+
 static void fill(const struct tables *t, long n)
 {
     long m = n / 2, d = 216 / n;
-    for (long i = 0; i < n; i++)
-        t->window[i] = cosine(d * (n - 2 * i - 1));
+    for (long i = 0; i < n; i++) {
+        t->windows[i] = cosine(d * (n - 2 * i - 1));
+        t->windows[n + i] = short_rise(i < m ? i : n - 1 - i, m / 3);
+    }
     for (long i = 0; i < n; i++)
         for (long k = 0; k < m; k++)
             t->turned[k * n + i] = t->kernel[i * m + k] = cosine(d * (2 * i + 1 + m) * (2 * k + 1));
@@ -63,10 +71,14 @@ INLINE int16_t sample(int64_t a, int64_t n)
     return (int16_t)(q < -32768 ? -32768 : q > 32767 ? 32767 : q);
 }
 
-INLINE void windowed(const struct tables *t, size_t n, const int16_t *x, int32_t *y)
+/* each half of a block by the window of its joint's shape */
+INLINE void windowed(const struct tables *t, size_t n, uint32_t left, uint32_t right, const int16_t *x, int32_t *y)
 {
-    for (size_t i = 0; i < n; i++)
-        y[i] = (int32_t)rnd((int64_t)t->window[i] * x[i], 18);
+    const int32_t *rising = t->windows + left * n, *falling = t->windows + right * n;
+    for (size_t i = 0; i < n / 2; i++)
+        y[i] = (int32_t)rnd((int64_t)rising[i] * x[i], 18);
+    for (size_t i = n / 2; i < n; i++)
+        y[i] = (int32_t)rnd((int64_t)falling[i] * x[i], 18);
 }
 
 /* s(c) = the sum over r of z(r) × rows(r,c). The order of the loops is the one that gcc makes faster code of: short sums one by one, long ones side
@@ -101,18 +113,18 @@ INLINE void spectrum(const int32_t *rows, size_t count, size_t m, const int32_t 
         out[k] = (int32_t)rnd(s[k], 28);
 }
 
-INLINE void analyse_direct(const struct tables *t, size_t n, const int16_t *x, int32_t *out)
+INLINE void analyse_direct(const struct tables *t, size_t n, uint32_t left, uint32_t right, const int16_t *x, int32_t *out)
 {
     int32_t y[MOST_N];
-    windowed(t, n, x, y);
+    windowed(t, n, left, right, x, y);
     spectrum(t->kernel, n, n / 2, y, out);
 }
 
-INLINE void analyse_folded(const struct tables *t, size_t n, const int16_t *x, int32_t *out)
+INLINE void analyse_folded(const struct tables *t, size_t n, uint32_t left, uint32_t right, const int16_t *x, int32_t *out)
 {
     size_t m = n / 2;
     int32_t y[MOST_N], z[MOST_M];
-    windowed(t, n, x, y);
+    windowed(t, n, left, right, x, y);
     for (size_t j = 0; j < m / 2; j++)
         z[j] = -y[3 * m / 2 - 1 - j] - y[3 * m / 2 + j];
     for (size_t j = m / 2; j < m; j++)
@@ -121,23 +133,24 @@ INLINE void analyse_folded(const struct tables *t, size_t n, const int16_t *x, i
 }
 
 /* The hop and the new tail from the n sums over k of X(k) × K(n,k). */
-INLINE void joined(const struct tables *t, size_t n, const int64_t *s, int64_t *tail, int16_t *hop)
+INLINE void joined(const struct tables *t, size_t n, uint32_t left, uint32_t right, const int64_t *s, int64_t *tail, int16_t *hop)
 {
+    const int32_t *rising = t->windows + left * n, *falling = t->windows + right * n;
     size_t m = n / 2;
     for (size_t i = 0; i < m; i++)
-        hop[i] = sample(tail[i] + t->window[i] * rnd(s[i], 26), (int64_t)n);
+        hop[i] = sample(tail[i] + rising[i] * rnd(s[i], 26), (int64_t)n);
     for (size_t i = 0; i < m; i++)
-        tail[i] = t->window[m + i] * rnd(s[m + i], 26);
+        tail[i] = falling[m + i] * rnd(s[m + i], 26);
 }
 
-INLINE void step_direct(const struct tables *t, size_t n, int64_t *tail, const int32_t *coefficients, int16_t *hop)
+INLINE void step_direct(const struct tables *t, size_t n, uint32_t left, uint32_t right, int64_t *tail, const int32_t *coefficients, int16_t *hop)
 {
     int64_t s[MOST_N];
     sums(t->turned, n / 2, n, coefficients, s);
-    joined(t, n, s, tail, hop);
+    joined(t, n, left, right, s, tail, hop);
 }
 
-INLINE void step_folded(const struct tables *t, size_t n, int64_t *tail, const int32_t *coefficients, int16_t *hop)
+INLINE void step_folded(const struct tables *t, size_t n, uint32_t left, uint32_t right, int64_t *tail, const int32_t *coefficients, int16_t *hop)
 {
     size_t m = n / 2;
     int64_t u[MOST_M], s[MOST_N];
@@ -148,7 +161,7 @@ INLINE void step_folded(const struct tables *t, size_t n, int64_t *tail, const i
         s[i] = -u[3 * m / 2 - 1 - i];
     for (size_t i = 3 * m / 2; i < n; i++)
         s[i] = -u[i - 3 * m / 2];
-    joined(t, n, s, tail, hop);
+    joined(t, n, left, right, s, tail, hop);
 }
 
 /* One body for each length, so that the compiler knows every count. */
@@ -159,22 +172,22 @@ INLINE void step_folded(const struct tables *t, size_t n, int64_t *tail, const i
         EACH_LENGTH(CASE, call, __VA_ARGS__)                            \
     }
 
-void PLAIN(analyse_direct)(size_t n, const int16_t *x, int32_t *out)
+void PLAIN(analyse_direct)(size_t n, uint32_t left, uint32_t right, const int16_t *x, int32_t *out)
 {
-    BY_LENGTH(analyse_direct, x, out)
+    BY_LENGTH(analyse_direct, left, right, x, out)
 }
 
-void PLAIN(analyse_folded)(size_t n, const int16_t *x, int32_t *out)
+void PLAIN(analyse_folded)(size_t n, uint32_t left, uint32_t right, const int16_t *x, int32_t *out)
 {
-    BY_LENGTH(analyse_folded, x, out)
+    BY_LENGTH(analyse_folded, left, right, x, out)
 }
 
-void PLAIN(step_direct)(size_t n, int64_t *tail, const int32_t *coefficients, int16_t *hop)
+void PLAIN(step_direct)(size_t n, uint32_t left, uint32_t right, int64_t *tail, const int32_t *coefficients, int16_t *hop)
 {
-    BY_LENGTH(step_direct, tail, coefficients, hop)
+    BY_LENGTH(step_direct, left, right, tail, coefficients, hop)
 }
 
-void PLAIN(step_folded)(size_t n, int64_t *tail, const int32_t *coefficients, int16_t *hop)
+void PLAIN(step_folded)(size_t n, uint32_t left, uint32_t right, int64_t *tail, const int32_t *coefficients, int16_t *hop)
 {
-    BY_LENGTH(step_folded, tail, coefficients, hop)
+    BY_LENGTH(step_folded, left, right, tail, coefficients, hop)
 }

@@ -16,8 +16,9 @@ static int64_t state[DAPPLESCREE_STATE];
 static uint8_t page[DAPPLESCREE_PAGE(MOST_N, HOPS)];
 
 static size_t n, m;
+static uint32_t left, right;
 
-/* a call of the same form that does nothing: it takes its return address */
+/* a call that does nothing: it takes its return address */
 static __attribute__((noipa)) uint32_t nothing(size_t length, const int16_t *x, size_t x_length, int32_t *out, size_t out_length)
 {
     (void)length, (void)x, (void)x_length, (void)out, (void)out_length;
@@ -31,12 +32,12 @@ static uint32_t call_nothing(void)
 
 static uint32_t direct(void)
 {
-    return dapplescree_analyse_direct(n, samples, n, coefficients, m);
+    return dapplescree_analyse_direct(n, left, right, samples, n, coefficients, m);
 }
 
 static uint32_t by_short_route(void)
 {
-    return dapplescree_analyse_short(n, samples, n, coefficients, m);
+    return dapplescree_analyse_short(n, left, right, samples, n, coefficients, m);
 }
 
 static uint32_t fresh(void)
@@ -47,7 +48,8 @@ static uint32_t fresh(void)
 /* it runs more than once on a stream, and each time brings the block that is expected */
 static uint32_t step(void)
 {
-    return dapplescree_stream_step(state, DAPPLESCREE_STATE, (uint32_t)state[DAPPLESCREE_EXPECTED], spectra, m, sound, m);
+    uint32_t number = (uint32_t)state[DAPPLESCREE_EXPECTED];
+    return dapplescree_stream_step(state, DAPPLESCREE_STATE, number, left, right, spectra, m, sound, m);
 }
 
 static uint32_t recording_direct(void)
@@ -123,11 +125,21 @@ static size_t depth(uint32_t (*call)(void), uint8_t paint)
     return sizeof stack - kept;
 }
 
-/* What is written may be the paint itself, so two are tried. */
+/* What is written may be the paint itself, so two are tried, with every pair of shapes: each left one is the right one before it, as a stream
+ * expects, and the last right one is the first left one. */
 static size_t deepest(uint32_t (*call)(void))
 {
-    size_t a = depth(call, 0x5a), b = depth(call, 0xa5);
-    return a > b ? a : b;
+    static const uint8_t paints[] = {0x5a, 0xa5};
+    static const uint32_t rights[] = {0, 1, 1, 0};
+    size_t most = 0;
+    for (int p = 0; p < 2; p++)
+        for (int r = 0; r < 4; r++) {
+            left = right;
+            right = rights[r];
+            size_t taken = depth(call, paints[p]);
+            most = taken > most ? taken : most;
+        }
+    return most;
 }
 
 static size_t bytes(uint32_t (*call)(void))

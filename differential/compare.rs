@@ -1,7 +1,8 @@
 //! The library held against the reference, call by call.
 use crate::inputs::*;
 use crate::library;
-use crate::reference::{offered, page_length, tail_limit, Bank, Route, COEFFICIENT_LIMIT, EXPECTED, HOPS, LENGTHS, STATE, STORAGE, TAIL};
+use crate::reference::{offered, page_length, shaped, tail_limit, Bank, Route, Shapes};
+use crate::reference::{COEFFICIENT_LIMIT, EXPECTED, HOPS, LENGTHS, LONG, SHAPE, STATE, STORAGE, TAIL};
 use std::fmt::Debug;
 
 /// More than any hop.
@@ -49,6 +50,11 @@ fn opposites(x: &[i16]) -> (Vec<i16>, Vec<i16>) {
     (x, turned)
 }
 
+/// The shapes of block b's joints.
+fn about(joints: &[u32], b: usize) -> Shapes {
+    (joints[b], joints[b + 1])
+}
+
 fn negated(x: &[i32]) -> Vec<i32> {
     x.iter().map(|&c| -c).collect()
 }
@@ -75,6 +81,33 @@ fn read_page(n: usize, text: &[u8]) -> Vec<i32> {
         x.extend(line[8..80].chunks(12).filter_map(read));
     }
     x
+}
+
+/// A recording on its way: the joints and the routes of its blocks, and what is brought of each, its coefficients changed by at most q.
+struct Trip<'a> {
+    n: usize,
+    x: &'a [i16],
+    joints: &'a [u32],
+    q: i64,
+    routes: Vec<Route>,
+    brought: Vec<Vec<i32>>,
+}
+
+impl Trip<'_> {
+    /// Hop h came back as near as the changes and the routes of its two blocks allow.
+    fn near(&self, h: usize, hop: &[i16], how: &str) {
+        let Trip { n, x, joints, q, routes, brought } = self;
+        let m = n / 2;
+        let short = routes[h] == Route::Short || routes[h + 1] == Route::Short;
+        let bound = q + if short { 16 } else { 0 } + 8;
+        for i in 0..m {
+            let distance = (i64::from(hop[i]) - i64::from(x[h * m + i])).abs();
+            if 16 * distance > bound {
+                let input = (n, q, h, i, x, joints, routes, brought);
+                mismatch(how, &input, &hop[i], &format_args!("{} within {bound}/16", x[h * m + i]));
+            }
+        }
+    }
 }
 
 impl Compare {
@@ -116,10 +149,10 @@ impl Compare {
         told
     }
 
-    fn analyse(&mut self, route: Route, n: usize, x: &[i16], length: usize) -> (u32, Vec<i32>) {
+    fn analyse(&mut self, route: Route, n: usize, shapes: Shapes, x: &[i16], length: usize) -> (u32, Vec<i32>) {
         let output = self.rubbish32(length);
-        let library = |x: &[i16], out: &mut [i32]| library::analyse(route, n, x, out);
-        self.call("analyse", &(route, n), x, output, library, |bank, x, out| bank.analyse(route, n, x, out))
+        let library = |x: &[i16], out: &mut [i32]| library::analyse(route, n, shapes, x, out);
+        self.call("analyse", &(route, n, shapes), x, output, library, |bank, x, out| bank.analyse(route, n, shapes, x, out))
     }
 
     fn analyse_recording(&mut self, route: Route, n: usize, hops: usize, x: &[i16], length: usize) -> (u32, Vec<i32>) {
@@ -154,37 +187,39 @@ impl Compare {
     }
 
     /// One step on a state, which then holds what the library left.
-    fn stream_step(&mut self, state: &mut Vec<i64>, number: u32, x: &[i32], length: usize) -> (u32, Vec<i16>) {
+    fn stream_step(&mut self, state: &mut Vec<i64>, number: u32, shapes: Shapes, x: &[i32], length: usize) -> (u32, Vec<i16>) {
         let output = self.rubbish16(length);
         let before = state.clone();
         let mut lent = Lent::new(&before, 0);
         let mut after = before.clone();
-        let library = |x: &[i32], out: &mut [i16]| library::stream_step(lent.part(), number, x, out);
-        let told = self.call("stream_step", &(&before, number), x, output, library, |bank, x, out| {
-            bank.stream_step(&mut after, number, x, out)
+        let library = |x: &[i32], out: &mut [i16]| library::stream_step(lent.part(), number, shapes, x, out);
+        let told = self.call("stream_step", &(&before, number, shapes), x, output, library, |bank, x, out| {
+            bank.stream_step(&mut after, number, shapes, x, out)
         });
         if lent.part() != after || !lent.margins_kept() {
-            mismatch("stream_step", &(&before, number, x, length), &(told.0, lent.part()), &(told.0, after));
+            mismatch("stream_step", &(&before, number, shapes, x, length), &(told.0, lent.part()), &(told.0, after));
         }
         *state = after;
         told
     }
 
     /// The same with the number that the state expects.
-    fn next_step(&mut self, state: &mut Vec<i64>, x: &[i32]) {
-        self.stream_step(state, expected(state), x, x.len());
+    fn next_step(&mut self, state: &mut Vec<i64>, shapes: Shapes, x: &[i32]) {
+        self.stream_step(state, expected(state), shapes, x, x.len());
     }
 
     /// The same with anything, mostly as it should be.
     fn some_step(&mut self, state: &mut Vec<i64>, m: usize) {
         let number = if self.random.one_in(6) { wrong_number(&mut self.random, state) } else { expected(state) };
+        let wrong = self.random.one_in(6);
+        let shapes = if wrong { wrong_shapes(&mut self.random, state) } else { expected_shapes(&mut self.random, state) };
         let (count, length) = (self.some_length(m), self.some_length(m));
         let x = self.some_coefficients(count);
-        self.stream_step(state, number, &x, length);
+        self.stream_step(state, number, shapes, &x, length);
     }
 
     fn offer(&mut self, offer: &mut Offer) -> u32 {
-        self.stream_step(&mut offer.state, offer.number, &offer.x, offer.length).0
+        self.stream_step(&mut offer.state, offer.number, offer.shapes, &offer.x, offer.length).0
     }
 
     fn fresh_state(&mut self, n: usize) -> Vec<i64> {
@@ -197,6 +232,14 @@ impl Compare {
             self.random.pick(&WRONG_N)
         } else {
             n
+        }
+    }
+
+    fn some_shape(&mut self) -> u32 {
+        if self.random.one_in(12) {
+            self.random.pick(&NO_SHAPES)
+        } else {
+            self.random.pick(&SHAPES)
         }
     }
 
@@ -237,31 +280,47 @@ impl Compare {
     }
 
     fn blocks(&mut self, n: usize) {
-        let m = n / 2;
-        for x in special_blocks(&self.bank, n) {
-            for route in ROUTES {
-                self.analyse(route, n, &x, m);
-            }
-        }
-        for route in routes_of(n) {
-            for x in half_blocks(&self.bank, &mut self.random, route, n) {
-                self.turned(route, n, &x);
-            }
-            for _ in 0..500 {
-                let x = samples(&mut self.random, n);
-                self.turned(route, n, &x);
-            }
-        }
-        if offered(Route::Short, n) {
-            for x in split_half_blocks(&self.bank, &mut self.random, n) {
-                self.turned(Route::Short, n, &x);
-            }
+        for shapes in PAIRS {
+            self.shaped_blocks(n, shapes);
         }
         for _ in 0..4000 {
             for route in ROUTES {
-                let (named, count, length) = (self.some_n(n), self.some_length(n), self.some_length(m));
+                let (named, count, length) = (self.some_n(n), self.some_length(n), self.some_length(n / 2));
+                let shapes = (self.some_shape(), self.some_shape());
                 let x = samples(&mut self.random, count);
-                self.analyse(route, named, &x, length);
+                self.analyse(route, named, shapes, &x, length);
+            }
+        }
+        // alone, with a cause that goes behind a shape, and with one that goes before it
+        for shapes in pairs_of_numbers() {
+            for (named, length) in [(n, n / 2), (n, n), (n + 1, n / 2)] {
+                for route in ROUTES {
+                    let x = samples(&mut self.random, n);
+                    self.analyse(route, named, shapes, &x, length);
+                }
+            }
+        }
+    }
+
+    fn shaped_blocks(&mut self, n: usize, shapes: Shapes) {
+        for x in special_blocks(&self.bank, n, shapes) {
+            let [(_, direct), (code, short)] = ROUTES.map(|route| self.analyse(route, n, shapes, &x, n / 2));
+            // the short route keeps its distance at every shape
+            let apart = |k: usize| direct[k].abs_diff(short[k]);
+            assert!(code != 0 || (0..n / 2).all(|k| apart(k) <= if k % 3 == 1 { 0 } else { 16 }));
+        }
+        for route in routes_of(n) {
+            for x in half_blocks(&self.bank, &mut self.random, route, n, shapes) {
+                self.turned(route, n, shapes, &x);
+            }
+            for _ in 0..200 {
+                let x = samples(&mut self.random, n);
+                self.turned(route, n, shapes, &x);
+            }
+        }
+        if offered(Route::Short, n) {
+            for x in split_half_blocks(&self.bank, &mut self.random, n, shapes) {
+                self.turned(Route::Short, n, shapes, &x);
             }
         }
     }
@@ -276,39 +335,50 @@ impl Compare {
     }
 
     fn steps(&mut self, n: usize) {
-        let m = n / 2;
-        // every special set of coefficients, after silence and after another one
+        // every special set of coefficients, after another one and after silence
         let sets = special_coefficients(&self.bank, n);
         let mut running = self.fresh_state(n);
         for x in &sets {
-            let mut state = self.fresh_state(n);
-            self.next_step(&mut state, x);
-            self.next_step(&mut running, x);
-            // a tail that brings every sum to a half, or one below it, so that V shows whole
-            let v = self.bank.v(n, x);
-            for beside in [0, 1] {
-                let mut made = self.fresh_state(n);
-                for i in 0..m {
-                    made[TAIL + i] = n as i64 * (1 << 29) - beside - v[i];
-                }
-                self.next_step(&mut made, x);
+            let shapes = expected_shapes(&mut self.random, &running);
+            self.next_step(&mut running, shapes, x);
+            for shapes in PAIRS {
+                self.first_steps(n, shapes, x);
             }
         }
         // long lists from a fresh stream, refused steps in between
         for _ in 0..40 {
             let mut state = self.fresh_state(n);
             for _ in 0..25 {
-                self.some_step(&mut state, m);
+                self.some_step(&mut state, n / 2);
             }
         }
-        // one coefficient at or beyond its limit, at every place
+        self.limit_steps(&mut running, n / 2);
+    }
+
+    /// A step after silence, and after a tail that brings every sum to a half, or one below it, so that V shows whole.
+    fn first_steps(&mut self, n: usize, shapes: Shapes, x: &[i32]) {
+        let mut silent = self.fresh_state(n);
+        silent[SHAPE] = i64::from(shapes.0);
+        self.next_step(&mut silent.clone(), shapes, x);
+        let v = self.bank.v(n, shapes, x);
+        for beside in [0, 1] {
+            let mut made = silent.clone();
+            for i in 0..n / 2 {
+                made[TAIL + i] = n as i64 * (1 << 29) - beside - v[i];
+            }
+            self.next_step(&mut made, shapes, x);
+        }
+    }
+
+    /// Steps with one coefficient at or beyond its limit, at every place.
+    fn limit_steps(&mut self, state: &mut Vec<i64>, m: usize) {
         for k in 0..m {
             for size in [COEFFICIENT_LIMIT, -COEFFICIENT_LIMIT].into_iter().chain(BEYOND) {
                 for length in [m, m - 1] {
                     let mut x = coefficients(&mut self.random, m);
                     x[k] = size;
-                    let number = expected(&running);
-                    self.stream_step(&mut running, number, &x, length);
+                    let (number, shapes) = (expected(state), expected_shapes(&mut self.random, state));
+                    self.stream_step(state, number, shapes, &x, length);
                 }
             }
         }
@@ -340,18 +410,23 @@ impl Compare {
                 self.some_step(&mut made, m);
             }
         }
-        // sums that meet an exact half, or lie one beside it, about zero and about both ends of a sample
+    }
+
+    /// Tails that no call made, whose sums meet an exact half, or lie one beside it, about zero and about both ends of a sample.
+    fn forged_halves(&mut self, n: usize) {
+        let m = n / 2;
         let unit = n as i64 * (1 << 30);
         for target in [-32770, -32769, -32768, -32767, -2, -1, 0, 1, 32765, 32766, 32767, 32768, 40000, -40000] {
             for beside in [-1, 0, 1] {
                 let x: Vec<i32> = (0..m).map(|_| self.random.between(-300_000, 300_000) as i32).collect();
-                let v = self.bank.v(n, &x);
                 let mut made = state(&mut self.random, n);
+                let shapes = expected_shapes(&mut self.random, &made);
+                let v = self.bank.v(n, shapes, &x);
                 for i in 0..m {
                     let sum = target * unit + self.random.pick(&[0, unit / 2, -unit / 2]) + beside;
                     made[TAIL + i] = sum - v[i];
                 }
-                self.next_step(&mut made, &x);
+                self.next_step(&mut made, shapes, &x);
             }
         }
     }
@@ -379,10 +454,31 @@ impl Compare {
         assert_eq!(made[EXPECTED], LAST + 1);
     }
 
-    /// A step that is due an answer by its number alone.
-    fn numbered_step(&mut self, state: &mut Vec<i64>, number: u32, due: u32) {
+    /// A step that is due an answer by its number and its shapes alone.
+    fn due_step(&mut self, state: &mut Vec<i64>, number: u32, shapes: Shapes, due: u32) {
         let x = coefficients(&mut self.random, state[0] as usize / 2);
-        assert_eq!(self.stream_step(state, number, &x, x.len()).0, due);
+        assert_eq!(self.stream_step(state, number, shapes, &x, x.len()).0, due);
+    }
+
+    /// The same by its number alone.
+    fn numbered_step(&mut self, state: &mut Vec<i64>, number: u32, due: u32) {
+        let shapes = expected_shapes(&mut self.random, state);
+        self.due_step(state, number, shapes, due);
+    }
+
+    /// Streams that no call made to expect the shape that they do: a step is taken exactly if it brings two shapes, that one on its left, and then
+    /// the one on its right is expected.
+    fn forged_shapes(&mut self, n: usize) {
+        for forged in SHAPES.map(i64::from).into_iter().chain(FORGED_SHAPES) {
+            for (left, right) in pairs_of_numbers() {
+                let mut made = state(&mut self.random, n);
+                made[SHAPE] = forged;
+                let taken = shaped((left, right)) && i64::from(left) == forged;
+                let number = expected(&made);
+                self.due_step(&mut made, number, (left, right), if taken { 0 } else { 8 });
+                assert_eq!(made[SHAPE], if taken { i64::from(right) } else { forged });
+            }
+        }
     }
 
     /// Every choice of a step's causes: the first of them is returned.
@@ -399,13 +495,13 @@ impl Compare {
     }
 
     /// A block, and without its samples of -32,768 the same with its sign turned: its coefficients have their signs turned (document 02, P5).
-    fn turned(&mut self, route: Route, n: usize, x: &[i16]) {
-        self.analyse(route, n, x, n / 2);
+    fn turned(&mut self, route: Route, n: usize, shapes: Shapes, x: &[i16]) {
+        self.analyse(route, n, shapes, x, n / 2);
         let (x, turned) = opposites(x);
-        let (_, first) = self.analyse(route, n, &x, n / 2);
-        let (_, second) = self.analyse(route, n, &turned, n / 2);
+        let (_, first) = self.analyse(route, n, shapes, &x, n / 2);
+        let (_, second) = self.analyse(route, n, shapes, &turned, n / 2);
         if second != negated(&first) {
-            mismatch("analyse, sign turned", &(route, n, x), &second, &negated(&first));
+            mismatch("analyse, sign turned", &(route, n, shapes, x), &second, &negated(&first));
         }
     }
 
@@ -429,16 +525,7 @@ impl Compare {
         }
         for hops in [1, 2, 3, 4, 7, 20] {
             for _ in 0..40 {
-                for route in ROUTES {
-                    let (wide, long) = self.some_lengths(hops, m);
-                    let x = samples(&mut self.random, wide);
-                    let (named_n, named) = (self.some_n(n), self.some_hops(hops));
-                    self.analyse_recording(route, named_n, named, &x, long);
-                }
-                let (wide, long) = self.some_lengths(hops, m);
-                let x = self.some_coefficients(long);
-                let (named_n, named) = (self.some_n(n), self.some_hops(hops));
-                self.synthesise_recording(named_n, named, &x, wide);
+                self.some_recording(n, hops);
             }
         }
         // a coefficient beyond its limit at either end of the first block and of the last
@@ -462,6 +549,21 @@ impl Compare {
         for hops in [HOPS, HOPS + 1] {
             self.both_ways(n, hops, hops * m, (hops + 1) * m);
         }
+    }
+
+    /// Recordings of anything by each route, and anything back, mostly as it should be.
+    fn some_recording(&mut self, n: usize, hops: usize) {
+        let m = n / 2;
+        for route in ROUTES {
+            let (wide, long) = self.some_lengths(hops, m);
+            let x = samples(&mut self.random, wide);
+            let (named_n, named) = (self.some_n(n), self.some_hops(hops));
+            self.analyse_recording(route, named_n, named, &x, long);
+        }
+        let (wide, long) = self.some_lengths(hops, m);
+        let x = self.some_coefficients(long);
+        let (named_n, named) = (self.some_n(n), self.some_hops(hops));
+        self.synthesise_recording(named_n, named, &x, wide);
     }
 
     /// A recording of so many samples by each route, and so many coefficients back.
@@ -531,12 +633,21 @@ impl Compare {
         changed
     }
 
-    /// A recording there and back: block by block, in whatever order they arrive, and by the calls over recordings. The blocks are made here:
-    /// with a hop of zeros put before the recording and one after it, block b covers its hops b - 1 and b.
-    fn round_trip(&mut self, n: usize, x: &[i16], q: i64) {
+    /// Block b of a recording, analysed with the joints about it. With a hop of zeros put before the recording and one after it, it covers hops b - 1
+    /// and b.
+    fn analyse_block(&mut self, route: Route, n: usize, x: &[i16], joints: &[u32], b: usize) -> Vec<i32> {
+        let m = n / 2;
+        let padded = [&vec![0; m], x, &vec![0; m]].concat();
+        let (number, coefficients) = self.analyse(route, n, about(joints, b), &padded[b * m..b * m + n], m);
+        assert_eq!(number, 0);
+        coefficients
+    }
+
+    /// A recording there and back with these joints: block by block, in whatever order they arrive, and by the calls over recordings where every
+    /// joint is long.
+    fn round_trip(&mut self, n: usize, x: &[i16], joints: &[u32], q: i64) {
         let m = n / 2;
         let hops = x.len() / m;
-        let padded = [&vec![0; m], x, &vec![0; m]].concat();
         let kind = self.random.below(4);
         let (target, pushed) = (self.random.below(m), self.random.below(hops));
         // all blocks by one route, or each by any
@@ -547,44 +658,42 @@ impl Compare {
         let mut brought = Vec::new();
         for b in 0..=hops {
             let route = choice.get(style).copied().unwrap_or_else(|| self.random.pick(&choice));
-            let (number, coefficients) = self.analyse(route, n, &padded[b * m..b * m + n], m);
-            assert_eq!(number, 0);
+            let coefficients = self.analyse_block(route, n, x, joints, b);
             // one hop is pushed from both of its blocks
             let place = if b == pushed { m + target } else { target };
             brought.push(self.changed(n, &coefficients, q, kind, place));
             given.extend(coefficients);
             routes.push(route);
         }
-        let near = |h: usize, hop: &[i16], how: &str| {
-            let short = routes[h] == Route::Short || routes[h + 1] == Route::Short;
-            let bound = q + if short { 16 } else { 0 } + 8;
-            for i in 0..m {
-                let distance = (i64::from(hop[i]) - i64::from(x[h * m + i])).abs();
-                if 16 * distance > bound {
-                    let input = (n, q, h, i, x, &routes, &brought);
-                    mismatch(how, &input, &hop[i], &format_args!("{} within {bound}/16", x[h * m + i]));
-                }
-            }
-        };
+        let trip = Trip { n, x, joints, q, routes, brought };
         let orders = arrivals(&mut self.random, hops + 1);
         let chosen = self.random.below(orders.len());
-        let returned = self.delivered(n, &brought, &orders[chosen]);
+        let returned = self.delivered(n, &trip.brought, joints, &orders[chosen]);
         for h in 0..hops {
-            near(h, &returned[h + 1], "a list of steps");
+            trip.near(h, &returned[h + 1], "a list of steps");
         }
-        if let Some(&route) = choice.get(style) {
-            assert_eq!(self.analyse_recording(route, n, hops, x, (hops + 1) * m), (0, given));
+        if joints.iter().all(|&shape| shape == LONG) {
+            self.whole_trip(&trip, choice.get(style).copied(), given);
         }
-        let (number, sound) = self.synthesise_recording(n, hops, &brought.concat(), hops * m);
+    }
+
+    /// The same by the calls over recordings: there, if one route made every block, to the coefficients given, and back.
+    fn whole_trip(&mut self, trip: &Trip, route: Option<Route>, given: Vec<i32>) {
+        let m = trip.n / 2;
+        let hops = trip.x.len() / m;
+        if let Some(route) = route {
+            assert_eq!(self.analyse_recording(route, trip.n, hops, trip.x, (hops + 1) * m), (0, given));
+        }
+        let (number, sound) = self.synthesise_recording(trip.n, hops, &trip.brought.concat(), hops * m);
         assert_eq!(number, 0);
         for h in 0..hops {
-            near(h, &sound[h * m..h * m + m], "synthesise_recording");
+            trip.near(h, &sound[h * m..h * m + m], "synthesise_recording");
         }
     }
 
     /// Blocks offered to a fresh stream in the order in which they arrive, over and over while any is taken, with other refused steps in between.
     /// A block is taken exactly if its number is how many were taken before it. The hops that came back.
-    fn delivered(&mut self, n: usize, blocks: &[Vec<i32>], order: &[usize]) -> Vec<Vec<i16>> {
+    fn delivered(&mut self, n: usize, blocks: &[Vec<i32>], joints: &[u32], order: &[usize]) -> Vec<Vec<i16>> {
         let mut state = self.fresh_state(n);
         let mut hops = Vec::new();
         loop {
@@ -593,7 +702,7 @@ impl Compare {
                 if self.random.one_in(3) {
                     self.refused_step(&state);
                 }
-                let (number, hop) = self.stream_step(&mut state, b as u32, &blocks[b], n / 2);
+                let (number, hop) = self.stream_step(&mut state, b as u32, about(joints, b), &blocks[b], n / 2);
                 assert_eq!(number, if b == hops.len() { 0 } else { 7 });
                 if number == 0 {
                     hops.push(hop);
@@ -605,13 +714,14 @@ impl Compare {
         }
     }
 
-    /// A step that is refused for its number, a length or a coefficient leaves the stream as it was.
+    /// A step that is refused for its number, a shape, a length or a coefficient leaves the stream as it was.
     fn refused_step(&mut self, state: &[i64]) {
         let mut offer = Offer::good(&mut self.random, state);
-        let cause = self.random.pick(&[2, 3, 4]);
+        let cause = self.random.pick(&[2, 3, 4, 5]);
         offer.damage(&mut self.random, cause);
+        let before = offer.state.clone();
         assert_eq!(self.offer(&mut offer), CAUSES[cause]);
-        assert_eq!(offer.state, state);
+        assert_eq!(offer.state, before);
     }
 
     /// Blocks shuffled, repeated, late and missing. The sound is that of the recording, up to the block that is missing.
@@ -619,16 +729,24 @@ impl Compare {
         let m = n / 2;
         for hops in [1, 2, 5, 20] {
             let x = samples(&mut self.random, hops * m);
-            let (_, given) = self.analyse_recording(Route::Direct, n, hops, &x, (hops + 1) * m);
-            let blocks: Vec<Vec<i32>> = given.chunks(m).map(<[i32]>::to_vec).collect();
+            let joints = joints(&mut self.random, hops + 1);
+            let blocks: Vec<Vec<i32>> = (0..=hops).map(|b| self.analyse_block(Route::Direct, n, &x, &joints, b)).collect();
             for order in arrivals(&mut self.random, hops + 1) {
-                let returned = self.delivered(n, &blocks, &order);
+                let returned = self.delivered(n, &blocks, &joints, &order);
                 assert_eq!(returned[1..].concat(), x);
                 let missing = self.random.below(hops + 1);
                 let rest: Vec<usize> = order.into_iter().filter(|&b| b != missing).collect();
-                assert_eq!(self.delivered(n, &blocks, &rest), returned[..missing]);
+                assert_eq!(self.delivered(n, &blocks, &joints, &rest), returned[..missing]);
             }
         }
+    }
+
+    /// A recording there and back at long joints, and in a mixture.
+    fn round_trip_by_joints(&mut self, n: usize, x: &[i16], q: i64) {
+        let blocks = x.len() / (n / 2) + 1;
+        let mixture = joints(&mut self.random, blocks);
+        self.round_trip(n, x, &vec![LONG; blocks + 1], q);
+        self.round_trip(n, x, &mixture, q);
     }
 
     fn round_trips(&mut self, n: usize) {
@@ -639,7 +757,7 @@ impl Compare {
                 for size in [1, -1, 32767, -32768] {
                     let mut x = vec![0; hops * m];
                     x[at] = size;
-                    self.round_trip(n, &x, 7);
+                    self.round_trip_by_joints(n, &x, 7);
                 }
             }
         }
@@ -648,9 +766,14 @@ impl Compare {
             for hops in [1, 2, 3, 4, 12] {
                 for _ in 0..5 {
                     let x = samples(&mut self.random, hops * m);
-                    self.round_trip(n, &x, q);
+                    self.round_trip_by_joints(n, &x, q);
                 }
             }
+        }
+        // long lists
+        for q in [0, 7, 100] {
+            let x = samples(&mut self.random, 120 * m);
+            self.round_trip_by_joints(n, &x, q);
         }
     }
 }
@@ -663,7 +786,9 @@ pub fn run(bank: Bank, seed: u64) -> u64 {
         compare.blocks(n);
         compare.steps(n);
         compare.forged(n);
+        compare.forged_halves(n);
         compare.forged_numbers(n);
+        compare.forged_shapes(n);
         compare.causes(n);
         compare.out_of_order(n);
         compare.recordings(n);

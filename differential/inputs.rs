@@ -1,5 +1,5 @@
 //! Samples, coefficients and streams to call with.
-use crate::reference::{offered, tail_limit, Bank, Route, COEFFICIENT_LIMIT, EXPECTED, STATE, STORAGE, TAIL};
+use crate::reference::{offered, tail_limit, Bank, Route, Shapes, COEFFICIENT_LIMIT, EXPECTED, LONG, SHAPE, SHORT, STATE, STORAGE, TAIL};
 use std::collections::HashMap;
 
 pub const ROUTES: [Route; 2] = [Route::Direct, Route::Short];
@@ -7,6 +7,20 @@ pub const ROUTES: [Route; 2] = [Route::Direct, Route::Short];
 /// The routes that are offered at length n.
 pub fn routes_of(n: usize) -> Vec<Route> {
     ROUTES.into_iter().filter(|&route| offered(route, n)).collect()
+}
+
+pub const SHAPES: [u32; 2] = [LONG, SHORT];
+
+/// Every pair of them.
+pub const PAIRS: [Shapes; 4] = [(LONG, LONG), (LONG, SHORT), (SHORT, LONG), (SHORT, SHORT)];
+
+/// Numbers that are no shape, some equal to one in their low bits.
+pub const NO_SHAPES: [u32; 8] = [2, 3, 256, 257, 1 << 16, 1 << 31, (1 << 31) + 1, u32::MAX];
+
+/// Every pair of numbers, shapes and others.
+pub fn pairs_of_numbers() -> Vec<Shapes> {
+    let numbers = SHAPES.into_iter().chain(NO_SHAPES);
+    numbers.clone().flat_map(|left| numbers.clone().map(move |right| (left, right))).collect()
 }
 
 /// Numbers by splitmix64.
@@ -69,7 +83,7 @@ pub fn loudest(z: i128) -> i16 {
 
 /// Blocks of n samples with a reason of their own: silence, the loudest, one coefficient at its largest, impulses at every place, and the
 /// samples whose windowed value is an exact half.
-pub fn special_blocks(bank: &Bank, n: usize) -> Vec<Vec<i16>> {
+pub fn special_blocks(bank: &Bank, n: usize, shapes: Shapes) -> Vec<Vec<i16>> {
     let mut blocks = vec![vec![0; n], vec![i16::MIN; n], vec![i16::MAX; n], vec![1; n], vec![-1; n]];
     for period in [1, 2, 3, n / 4, n / 2] {
         let square: Vec<i16> = (0..n).map(|i| if i / period % 2 == 0 { i16::MIN } else { i16::MAX }).collect();
@@ -87,7 +101,8 @@ pub fn special_blocks(bank: &Bank, n: usize) -> Vec<Vec<i16>> {
     };
     for i in 0..n {
         blocks.extend(IMPULSES.map(|size| impulse(i, size)));
-        let half = |s: &i16| (bank.w(n, i) * i128::from(*s)).rem_euclid(1 << 18) == 1 << 17;
+        let w = bank.w(n, shapes, i);
+        let half = |s: &i16| (w * i128::from(*s)).rem_euclid(1 << 18) == 1 << 17;
         blocks.extend((i16::MIN..=i16::MAX).filter(half).take(12).map(|size| impulse(i, size)));
     }
     blocks
@@ -107,17 +122,17 @@ fn half_pairs(first: &[i128], second: &[i128], b: i128) -> Vec<(usize, usize)> {
 
 /// Blocks of which some coefficient is rounded from an exact half. A sum is linear in the groups, so two lists of blocks with one group each are
 /// searched for pairs that meet.
-pub fn half_blocks(bank: &Bank, random: &mut Random, route: Route, n: usize) -> Vec<Vec<i16>> {
+pub fn half_blocks(bank: &Bank, random: &mut Random, route: Route, n: usize, shapes: Shapes) -> Vec<Vec<i16>> {
     let mut list = |i: usize| -> Vec<Vec<i16>> {
         let mut one = || {
             let mut x = vec![0; n];
             group(n, i).into_iter().for_each(|place| x[place] = random.bits() as i16);
             x
         };
-        (0..40_000).map(|_| one()).collect()
+        (0..20_000).map(|_| one()).collect()
     };
     let lists = [list(0), list(n / 3 - 1)];
-    let sums = lists.each_ref().map(|list| list.iter().map(|x| bank.sums(route, n, x)).collect::<Vec<_>>());
+    let sums = lists.each_ref().map(|list| list.iter().map(|x| bank.sums(route, n, shapes, x)).collect::<Vec<_>>());
     let mut blocks = Vec::new();
     for k in 0..n / 2 {
         let column = |s: &[Vec<(i128, i128)>]| s.iter().map(|row| row[k].0).collect::<Vec<_>>();
@@ -129,7 +144,7 @@ pub fn half_blocks(bank: &Bank, random: &mut Random, route: Route, n: usize) -> 
 }
 
 /// Blocks of which some rB or rC is rounded from an exact half, with other samples about it, so that it shows.
-pub fn split_half_blocks(bank: &Bank, random: &mut Random, n: usize) -> Vec<Vec<i16>> {
+pub fn split_half_blocks(bank: &Bank, random: &mut Random, n: usize, shapes: Shapes) -> Vec<Vec<i16>> {
     let mut blocks = Vec::new();
     for i in 0..n / 3 {
         let [first, second, _] = group(n, i);
@@ -142,7 +157,7 @@ pub fn split_half_blocks(bank: &Bank, random: &mut Random, n: usize) -> Vec<Vec<
             (0..12_000).map(|_| one()).collect()
         };
         let lists = [list(first), list(second)];
-        let tops = lists.each_ref().map(|list| list.iter().map(|x| bank.split_sums(n, x, i)).collect::<Vec<_>>());
+        let tops = lists.each_ref().map(|list| list.iter().map(|x| bank.split_sums(n, shapes, x, i)).collect::<Vec<_>>());
         for which in 0..2 {
             let column = |s: &[[i128; 2]]| s.iter().map(|row| row[which]).collect::<Vec<_>>();
             for (p, q) in half_pairs(&column(&tops[0]), &column(&tops[1]), 1 << 26) {
@@ -227,6 +242,22 @@ pub fn wrong_number(random: &mut Random, state: &[i64]) -> u32 {
     random.other(right, &others)
 }
 
+/// The shapes of a block whose left one is what a state expects, or of a forged one its low bits, and whose right one is either.
+pub fn expected_shapes(random: &mut Random, state: &[i64]) -> Shapes {
+    (state.get(SHAPE).map_or(LONG, |&shape| shape as u32), random.pick(&SHAPES))
+}
+
+/// Shapes that a state which expects one refuses: a number that is none, on either side or on both, or the other one on the left.
+pub fn wrong_shapes(random: &mut Random, state: &[i64]) -> Shapes {
+    let (left, right) = expected_shapes(random, state);
+    match random.below(4) {
+        0 => (random.pick(&NO_SHAPES), right),
+        1 => (left, random.pick(&NO_SHAPES)),
+        2 => (random.pick(&NO_SHAPES), random.pick(&NO_SHAPES)),
+        _ => (random.other(left, &SHAPES), right),
+    }
+}
+
 /// The last number of a block.
 pub const LAST: i64 = u32::MAX as i64;
 
@@ -253,6 +284,39 @@ pub const FORGED_NUMBERS: [i64; 20] = [
     i64::MIN,
     i64::MIN + 7,
 ];
+
+/// Expected shapes to forge: beside the two that there are, and beyond them with one in the low bits.
+pub const FORGED_SHAPES: [i64; 16] = [
+    2,
+    3,
+    256,
+    257,
+    1 << 31,
+    LAST,
+    LAST + 1,
+    LAST + 2,
+    i64::MAX - 1,
+    i64::MAX,
+    -1,
+    -2,
+    -LAST,
+    -LAST - 1,
+    i64::MIN,
+    i64::MIN + 1,
+];
+
+/// The shapes of the joints about so many blocks, from left to right: a long one, which a fresh stream expects, and behind it short ones, both in
+/// turn, or any.
+pub fn joints(random: &mut Random, blocks: usize) -> Vec<u32> {
+    let kind = random.below(3);
+    let mut shape = |j: usize| match kind {
+        0 => SHORT,
+        1 => SHAPES[j % 2],
+        _ => random.pick(&SHAPES),
+    };
+    let behind = (1..=blocks).map(&mut shape);
+    [LONG].into_iter().chain(behind).collect()
+}
 
 /// The numbers of so many blocks, at least two, in orders in which they may arrive: shuffled, repeated, late, backwards. Each holds all of them.
 pub fn arrivals(random: &mut Random, count: usize) -> Vec<Vec<usize>> {
@@ -294,15 +358,16 @@ pub const WRONG_N: [usize; 19] = [
     usize::MAX - 11,
 ];
 
-/// Lengths of a state that differ from the stated one, among them those that end about the expected number, and with the tail of N = 72 alone.
-pub const WRONG_STATE: [usize; 7] = [0, 1, 2, 38, STATE - 1, STATE + 1, 2 * STATE];
+/// Lengths of a state that differ from the stated one, among them those that end about what it expects, and with the tail of N = 72 alone.
+pub const WRONG_STATE: [usize; 8] = [0, 1, 2, 3, 39, STATE - 1, STATE + 1, 2 * STATE];
 
-/// A state as a stream may come to hold: N, an expected number that a block bears, a tail within its limit, and anything in storage from M on.
+/// A state as a stream may come to hold: N, an expected number that a block bears, an expected shape, a tail within its limit, and anything in
+/// storage from M on.
 pub fn state(random: &mut Random, n: usize) -> Vec<i64> {
     let limit = tail_limit(n);
     let top = random.pick(&[0, 1, n as i64 * (1 << 29), n as i64 * (1 << 45), limit]);
     let any = random.between(0, LAST);
-    let mut state = vec![n as i64, random.pick(&[0, 1, 2, any, LAST - 1, LAST])];
+    let mut state = vec![n as i64, random.pick(&[0, 1, 2, any, LAST - 1, LAST]), i64::from(random.pick(&SHAPES))];
     for i in 0..STORAGE {
         state.push(if i >= n / 2 {
             random.bits() as i64
@@ -319,19 +384,26 @@ pub fn state(random: &mut Random, n: usize) -> Vec<i64> {
 pub struct Offer {
     pub state: Vec<i64>,
     pub number: u32,
+    pub shapes: Shapes,
     pub x: Vec<i32>,
     pub length: usize,
 }
 
-/// What a step returns for each of its causes, in the order in which they are tested: the state's length, its N and tail, the block's number,
-/// the length of a buffer, a coefficient.
-pub const CAUSES: [u32; 5] = [2, 4, 7, 2, 3];
+/// What a step returns for each of its causes, in the order in which they are tested: the state's length, its N and tail, the block's number, its
+/// shapes, the length of a buffer, a coefficient.
+pub const CAUSES: [u32; 6] = [2, 4, 7, 8, 2, 3];
 
 impl Offer {
     /// The block that a sound state expects.
     pub fn good(random: &mut Random, state: &[i64]) -> Offer {
         let m = state[0] as usize / 2;
-        Offer { state: state.to_vec(), number: expected(state), x: coefficients(random, m), length: m }
+        Offer {
+            state: state.to_vec(),
+            number: expected(state),
+            shapes: expected_shapes(random, state),
+            x: coefficients(random, m),
+            length: m,
+        }
     }
 
     /// Brings about one of CAUSES. Several go from the last to the first, since a damaged state no longer says what the rest should be.
@@ -340,8 +412,10 @@ impl Offer {
             0 => self.state.resize(random.pick(&WRONG_STATE), 5),
             1 => damage_stream(random, &mut self.state),
             2 => self.number = wrong_number(random, &self.state),
-            3 if random.one_in(2) => self.length = wrong_length(random, self.length),
-            3 => self.x.resize(wrong_length(random, self.length), 0),
+            3 if random.one_in(4) => self.state[SHAPE] = random.pick(&FORGED_SHAPES),
+            3 => self.shapes = wrong_shapes(random, &self.state),
+            4 if random.one_in(2) => self.length = wrong_length(random, self.length),
+            4 => self.x.resize(wrong_length(random, self.length), 0),
             _ => {
                 let at = random.below(self.x.len());
                 self.x[at] = random.pick(&BEYOND);

@@ -1,14 +1,16 @@
 //! The calls of include/dapplescree.h, each in a safe function over slices.
-use crate::reference::Route;
+use crate::reference::{Route, Shapes};
 
 extern "C" {
-    fn dapplescree_analyse_direct(n: usize, samples: *const i16, samples_length: usize, coefficients: *mut i32, coefficients_length: usize) -> u32;
-    fn dapplescree_analyse_short(n: usize, samples: *const i16, samples_length: usize, coefficients: *mut i32, coefficients_length: usize) -> u32;
+    fn dapplescree_analyse_direct(n: usize, left: u32, right: u32, x: *const i16, x_length: usize, out: *mut i32, out_length: usize) -> u32;
+    fn dapplescree_analyse_short(n: usize, left: u32, right: u32, x: *const i16, x_length: usize, out: *mut i32, out_length: usize) -> u32;
     fn dapplescree_stream_fresh(n: usize, state: *mut i64, state_length: usize) -> u32;
     fn dapplescree_stream_step(
         state: *mut i64,
         state_length: usize,
         number: u32,
+        left: u32,
+        right: u32,
         coefficients: *const i32,
         coefficients_length: usize,
         hop: *mut i16,
@@ -43,20 +45,21 @@ extern "C" {
 
 // Each pointer and length below come from one slice, and slices lent by & and &mut do not overlap.
 
-pub fn analyse(route: Route, n: usize, x: &[i16], out: &mut [i32]) -> u32 {
+pub fn analyse(route: Route, n: usize, (left, right): Shapes, x: &[i16], out: &mut [i32]) -> u32 {
     let call = match route {
         Route::Direct => dapplescree_analyse_direct,
         Route::Short => dapplescree_analyse_short,
     };
-    unsafe { call(n, x.as_ptr(), x.len(), out.as_mut_ptr(), out.len()) }
+    unsafe { call(n, left, right, x.as_ptr(), x.len(), out.as_mut_ptr(), out.len()) }
 }
 
 pub fn stream_fresh(n: usize, state: &mut [i64]) -> u32 {
     unsafe { dapplescree_stream_fresh(n, state.as_mut_ptr(), state.len()) }
 }
 
-pub fn stream_step(state: &mut [i64], number: u32, x: &[i32], out: &mut [i16]) -> u32 {
-    unsafe { dapplescree_stream_step(state.as_mut_ptr(), state.len(), number, x.as_ptr(), x.len(), out.as_mut_ptr(), out.len()) }
+pub fn stream_step(state: &mut [i64], number: u32, (left, right): Shapes, x: &[i32], out: &mut [i16]) -> u32 {
+    let (state, length) = (state.as_mut_ptr(), state.len());
+    unsafe { dapplescree_stream_step(state, length, number, left, right, x.as_ptr(), x.len(), out.as_mut_ptr(), out.len()) }
 }
 
 pub fn analyse_recording(route: Route, n: usize, hops: usize, x: &[i16], out: &mut [i32]) -> u32 {

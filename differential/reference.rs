@@ -1,4 +1,4 @@
-//! Document 01, with P1, P2, P4, P5 and P6 of document 02, written out anew: exact series, naive sums, rounding by size. It shares no table with any other file.
+//! Document 01, with P1, P2 and P4 to P7 of document 02, written out anew: exact series, naive sums, rounding by size. It shares no table with any other file.
 
 /// A natural number of any size, in base 2^64, lowest digit first.
 #[derive(Clone)]
@@ -102,9 +102,10 @@ pub const LENGTHS: [usize; 6] = [12, 24, 36, 72, 108, 216];
 /// Those at which the short route is offered.
 pub const SHORT_LENGTHS: [usize; 4] = [12, 24, 36, 72];
 pub const STORAGE: usize = 108;
-/// A state: N, the expected number, and from its place TAIL on the tail's storage.
+/// A state: N, the expected number, the expected shape, and from its place TAIL on the tail's storage.
 pub const EXPECTED: usize = 1;
-pub const TAIL: usize = 2;
+pub const SHAPE: usize = 2;
+pub const TAIL: usize = 3;
 pub const STATE: usize = TAIL + STORAGE;
 pub const COEFFICIENT_LIMIT: i32 = 536_870_912;
 pub const HOPS: usize = 4095;
@@ -114,6 +115,11 @@ pub enum Route {
     Direct,
     Short,
 }
+
+/// The shapes of a block's left joint and of its right one.
+pub type Shapes = (u32, u32);
+pub const LONG: u32 = 0;
+pub const SHORT: u32 = 1;
 
 /// rnd(a/b), an exact half going away from zero: by size, the floor of (|a| + b/2)/b, with the sign of a.
 pub fn rnd(a: i128, b: i128) -> i128 {
@@ -130,6 +136,11 @@ pub fn offered(route: Route, n: usize) -> bool {
         Route::Direct => tabled(n),
         Route::Short => SHORT_LENGTHS.contains(&n),
     }
+}
+
+/// Whether both are shapes.
+pub fn shaped((left, right): Shapes) -> bool {
+    left <= SHORT && right <= SHORT
 }
 
 pub fn tail_limit(n: usize) -> i64 {
@@ -156,10 +167,27 @@ impl Bank {
         }
     }
 
-    /// The window W(i) at length n.
-    pub fn w(&self, n: usize, i: usize) -> i128 {
+    /// Entry i of the half that rises over a joint of this shape, i below n/2.
+    fn rising(&self, n: usize, shape: u32, i: usize) -> i128 {
         let (n, i) = (n as i64, i as i64);
-        self.c(216 / n * (n - 2 * i - 1))
+        if shape == LONG {
+            return self.c(216 / n * (n - 2 * i - 1));
+        }
+        let r = n / 2 / 3;
+        match i / r {
+            0 => 0,
+            1 => self.c(216 - 108 / r * (2 * (i - r) + 1)),
+            _ => 67_108_864,
+        }
+    }
+
+    /// The window W(i) of a block with these shapes at length n: over its right joint it falls as the mirror of what rises there.
+    pub fn w(&self, n: usize, (left, right): Shapes, i: usize) -> i128 {
+        if i < n / 2 {
+            self.rising(n, left, i)
+        } else {
+            self.rising(n, right, n - 1 - i)
+        }
     }
 
     /// The kernel K(i,k) at length n.
@@ -174,13 +202,14 @@ impl Bank {
         self.c(3 * (216 / n) * (2 * i + 1 + n / 6) * (2 * k + 1))
     }
 
-    fn windowed(&self, n: usize, x: &[i16]) -> Vec<i128> {
-        (0..n).map(|i| rnd(self.w(n, i) * i128::from(x[i]), 1 << 18)).collect()
+    fn windowed(&self, n: usize, shapes: Shapes, x: &[i16]) -> Vec<i128> {
+        (0..n).map(|i| rnd(self.w(n, shapes, i) * i128::from(x[i]), 1 << 18)).collect()
     }
 
     /// S(k), and what it is divided by.
     fn direct(&self, n: usize, y: &[i128]) -> Vec<(i128, i128)> {
-        let s = |k: usize| (0..n).filter(|&i| y[i] != 0).map(|i| y[i] * self.k(n, i, k)).sum();
+        let places = nonzero(y);
+        let s = |k: usize| places.iter().map(|&i| y[i] * self.k(n, i, k)).sum();
         (0..n / 2).map(|k| (s(k), 1 << 28)).collect()
     }
 
@@ -218,8 +247,8 @@ impl Bank {
     }
 
     /// For each coefficient of a block of n samples, the sum and the power of two whose quotient is rounded to it.
-    pub fn sums(&self, route: Route, n: usize, x: &[i16]) -> Vec<(i128, i128)> {
-        let y = self.windowed(n, x);
+    pub fn sums(&self, route: Route, n: usize, shapes: Shapes, x: &[i16]) -> Vec<(i128, i128)> {
+        let y = self.windowed(n, shapes, x);
         match route {
             Route::Direct => self.direct(n, &y),
             Route::Short => self.short(n, &y),
@@ -228,26 +257,27 @@ impl Bank {
 
     /// What is divided by 2^26 to rB(i) and rC(i).
     #[cfg(library)]
-    pub fn split_sums(&self, n: usize, x: &[i16], i: usize) -> [i128; 2] {
-        let (_, top_b, top_c) = self.split(n, &self.windowed(n, x), i);
+    pub fn split_sums(&self, n: usize, shapes: Shapes, x: &[i16], i: usize) -> [i128; 2] {
+        let (_, top_b, top_c) = self.split(n, &self.windowed(n, shapes, x), i);
         [top_b, top_c]
     }
 
-    fn coefficients(&self, route: Route, n: usize, x: &[i16]) -> Vec<i32> {
+    fn coefficients(&self, route: Route, n: usize, shapes: Shapes, x: &[i16]) -> Vec<i32> {
         let rounded = |(a, b): (i128, i128)| i32::try_from(rnd(a, b)).expect("a coefficient beyond 32 bits");
-        self.sums(route, n, x).into_iter().map(rounded).collect()
+        self.sums(route, n, shapes, x).into_iter().map(rounded).collect()
     }
 
     /// V(0) .. V(n-1).
-    pub fn v(&self, n: usize, x: &[i32]) -> Vec<i64> {
-        let u = |i: usize| rnd((0..n / 2).filter(|&k| x[k] != 0).map(|k| i128::from(x[k]) * self.k(n, i, k)).sum(), 1 << 26);
-        (0..n).map(|i| i64::try_from(self.w(n, i) * u(i)).expect("V beyond 64 bits")).collect()
+    pub fn v(&self, n: usize, shapes: Shapes, x: &[i32]) -> Vec<i64> {
+        let places = nonzero(x);
+        let u = |i: usize| rnd(places.iter().map(|&k| i128::from(x[k]) * self.k(n, i, k)).sum(), 1 << 26);
+        (0..n).map(|i| i64::try_from(self.w(n, shapes, i) * u(i)).expect("V beyond 64 bits")).collect()
     }
 
     /// The hop of one step; the first n/2 entries of the tail are replaced.
-    fn advance(&self, n: usize, tail: &mut [i64], x: &[i32]) -> Vec<i16> {
+    fn advance(&self, n: usize, tail: &mut [i64], shapes: Shapes, x: &[i32]) -> Vec<i16> {
         let m = n / 2;
-        let v = self.v(n, x);
+        let v = self.v(n, shapes, x);
         let sample = |i: usize| rnd(i128::from(tail[i]) + i128::from(v[i]), n as i128 * (1 << 30)).clamp(-32768, 32767) as i16;
         let hop = (0..m).map(sample).collect();
         tail[..m].copy_from_slice(&v[m..]);
@@ -256,14 +286,17 @@ impl Bank {
 
     // The calls of the header, refusals included.
 
-    pub fn analyse(&self, route: Route, n: usize, x: &[i16], out: &mut [i32]) -> u32 {
+    pub fn analyse(&self, route: Route, n: usize, shapes: Shapes, x: &[i16], out: &mut [i32]) -> u32 {
         if !offered(route, n) {
             return 1;
+        }
+        if !shaped(shapes) {
+            return 8;
         }
         if x.len() != n || out.len() != n / 2 {
             return 2;
         }
-        out.copy_from_slice(&self.coefficients(route, n, x));
+        out.copy_from_slice(&self.coefficients(route, n, shapes, x));
         0
     }
 
@@ -279,7 +312,7 @@ impl Bank {
         0
     }
 
-    pub fn stream_step(&self, state: &mut [i64], number: u32, x: &[i32], out: &mut [i16]) -> u32 {
+    pub fn stream_step(&self, state: &mut [i64], number: u32, shapes: Shapes, x: &[i32], out: &mut [i16]) -> u32 {
         if state.len() != STATE {
             return 2;
         }
@@ -294,19 +327,23 @@ impl Bank {
         if i64::from(number) != state[EXPECTED] {
             return 7;
         }
+        if !shaped(shapes) || i64::from(shapes.0) != state[SHAPE] {
+            return 8;
+        }
         if x.len() != m || out.len() != m {
             return 2;
         }
         if beyond(x) {
             return 3;
         }
-        out.copy_from_slice(&self.advance(n, &mut state[TAIL..], x));
+        out.copy_from_slice(&self.advance(n, &mut state[TAIL..], shapes, x));
         // after the last number it is 2^32, which no block bears
         state[EXPECTED] = i64::from(number) + 1;
+        state[SHAPE] = i64::from(shapes.1);
         0
     }
 
-    /// Block b, b from 0 to hops, covers hops b - 1 and b. What lies outside the recording is 0.
+    /// Block b, b from 0 to hops, covers hops b - 1 and b. What lies outside the recording is 0, and every joint is long.
     pub fn analyse_recording(&self, route: Route, n: usize, hops: usize, x: &[i16], out: &mut [i32]) -> u32 {
         if !offered(route, n) {
             return 1;
@@ -318,7 +355,7 @@ impl Bank {
         for b in 0..=hops {
             let sample = |i: usize| (b * m + i).checked_sub(m).and_then(|at| x.get(at)).copied().unwrap_or(0);
             let block: Vec<i16> = (0..n).map(sample).collect();
-            out[b * m..b * m + m].copy_from_slice(&self.coefficients(route, n, &block));
+            out[b * m..b * m + m].copy_from_slice(&self.coefficients(route, n, (LONG, LONG), &block));
         }
         0
     }
@@ -335,7 +372,7 @@ impl Bank {
             return 3;
         }
         let mut tail = vec![0; m];
-        let mut step = |b: usize| self.advance(n, &mut tail, &x[b * m..b * m + m]);
+        let mut step = |b: usize| self.advance(n, &mut tail, (LONG, LONG), &x[b * m..b * m + m]);
         let _run_in = step(0);
         for h in 0..hops {
             out[h * m..h * m + m].copy_from_slice(&step(h + 1));
@@ -370,6 +407,11 @@ impl Bank {
 /// A line of 80 columns and a line feed for every six coefficients.
 pub fn page_length(n: usize, hops: usize) -> usize {
     (hops + 1) * (n / 2 / 6) * 81
+}
+
+/// The places that count in a sum of products.
+fn nonzero<T: Default + PartialEq>(list: &[T]) -> Vec<usize> {
+    (0..list.len()).filter(|&i| list[i] != T::default()).collect()
 }
 
 fn beyond(x: &[i32]) -> bool {

@@ -41,19 +41,22 @@ fn holds(bank: &Bank, line: &str) -> bool {
     let fields: Vec<&str> = line.split(';').collect();
     match fields[..] {
         ["C", t, value] => bank.c(number(t)) == number(value),
-        ["W", n, i, value] => bank.w(number(n), number(i)) == number(value),
+        ["W", n, left, right, i, value] => bank.w(number(n), (number(left), number(right)), number(i)) == number(value),
         ["K", n, i, k, value] => bank.k(number(n), number(i), number(k)) == number(value),
         ["L", n, i, k, value] => bank.l(number(n), number(i), number(k)) == number(value),
-        ["analyse", r, n, x, length, code, out] => agrees(length, code, out, |b| bank.analyse(route(r), number(n), &list(x), b)),
+        ["analyse", r, n, left, right, x, length, code, out] => {
+            agrees(length, code, out, |b| bank.analyse(route(r), number(n), (number(left), number(right)), &list(x), b))
+        }
         ["stream_fresh", n, state, code, after_state] => {
             let before: Vec<i64> = list(state);
             let mut now = before.clone();
             bank.stream_fresh(number(n), &mut now) == number(code) && now == after(after_state, &before)
         }
-        ["stream_step", state, block, x, length, code, out, after_state] => {
+        ["stream_step", state, block, left, right, x, length, code, out, after_state] => {
             let before: Vec<i64> = list(state);
             let mut now = before.clone();
-            agrees(length, code, out, |b| bank.stream_step(&mut now, number(block), &list(x), b)) && now == after(after_state, &before)
+            let shapes = (number(left), number(right));
+            agrees(length, code, out, |b| bank.stream_step(&mut now, number(block), shapes, &list(x), b)) && now == after(after_state, &before)
         }
         ["analyse_recording", r, n, hops, x, length, code, out] => {
             agrees(length, code, out, |b| bank.analyse_recording(route(r), number(n), number(hops), &list(x), b))

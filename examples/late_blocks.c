@@ -44,8 +44,8 @@ int main(void)
     int offers = 0, taken = 0;
     while (taken < BLOCKS && offers < BLOCKS * ROUND) {
         uint32_t b = order[offers++ % ROUND];
-        /* a block that is turned away leaves its place in hops as it was */
-        refused = dapplescree_stream_step(state, DAPPLESCREE_STATE, b, blocks + b * M, M, hops + b * M, M);
+        /* a block that is turned away leaves its place in hops as it was; the joints of a recording are long */
+        refused = dapplescree_stream_step(state, DAPPLESCREE_STATE, b, 0, 0, blocks + b * M, M, hops + b * M, M);
         if (refused != 0 && refused != 7)
             return 1;
         taken += refused == 0;

@@ -1,4 +1,5 @@
-/* There and back: a recording of four hops is analysed and synthesised again, block by block and whole, and what returns is held to it.
+/* There and back: a recording of four hops, every joint of it long, is analysed and synthesised again, block by block and whole, and what
+ * returns is held to it.
  *
  *   rt staticlib c_face
  *   gcc -O2 -Wall -Wextra -Iinclude examples/there_and_back.c target/staticlib/libc_face.a -o target/there_and_back
@@ -30,8 +31,8 @@ int main(void)
 
     refused |= dapplescree_stream_fresh(N, state, DAPPLESCREE_STATE);
     for (uint32_t b = 0; b <= HOPS; b++) {
-        refused |= dapplescree_analyse_direct(N, padded + b * M, N, block, M);
-        refused |= dapplescree_stream_step(state, DAPPLESCREE_STATE, b, block, M, hops + b * M, M);
+        refused |= dapplescree_analyse_direct(N, 0, 0, padded + b * M, N, block, M);
+        refused |= dapplescree_stream_step(state, DAPPLESCREE_STATE, b, 0, 0, block, M, hops + b * M, M);
     }
     refused |= dapplescree_analyse_recording_direct(N, HOPS, recording, SAMPLES, blocks, COEFFICIENTS);
     refused |= dapplescree_synthesise_recording(N, HOPS, blocks, COEFFICIENTS, whole, SAMPLES);
@@ -41,7 +42,8 @@ int main(void)
     /* the first hop of a stream is the run-in; the calls over a recording drop it */
     int by_block = differing(hops + M, recording), by_recording = differing(whole, recording);
     printf("%d samples: %d differ block by block, %d by the calls over a recording\n", SAMPLES, by_block, by_recording);
-    printf("N = 11 gives %u\n", dapplescree_analyse_direct(11, padded, N, block, M));
-    printf("N = %d by the short route gives %u\n", N, dapplescree_analyse_short(N, padded, N, block, M));
+    printf("N = 11 gives %u\n", dapplescree_analyse_direct(11, 0, 0, padded, N, block, M));
+    printf("N = %d by the short route gives %u\n", N, dapplescree_analyse_short(N, 0, 0, padded, N, block, M));
+    printf("a right shape of 2 gives %u\n", dapplescree_analyse_direct(N, 0, 2, padded, N, block, M));
     return by_block || by_recording;
 }

@@ -2,10 +2,20 @@
  *
  * Link target/staticlib/libc_face.a (`rt staticlib c_face`). N is the block length: 12, 24, 36, 72, 108 or 216, the tabled lengths. M = N/2 is
  * a hop. Direct analysis and synthesis are offered at every tabled length, the short route at 12, 24, 36 and 72. A sample is an int16_t. A
- * coefficient is an int32_t counted in units of 1/64. y, S, X, U, V, rnd, W and K below are those of document 01, with the turn cut in 864
+ * coefficient is an int32_t counted in units of 1/64. y, S, X, U, V, rnd, C and K below are those of document 01, with the turn cut in 864
  * parts and an exact half going away from zero (document 02, P4 and P5): sound without -32,768 has, with its sign turned, the same
  * coefficients with their signs turned. A recording has one hop of zeros put before it and one after it: of H hops it has H + 1 blocks, and
  * block b, b from 0 to H, covers its hops b - 1 and b, those outside it being zeros.
+ *
+ * Two blocks that follow one another meet in a joint, the hop that both cover. Its shape is a number, 0 for long and 1 for short, and says how
+ * the later block rises there, by M entries, entry i being:
+ *
+ *   0  C((216 / N) * (N - 2 * i - 1)): half of the sine window
+ *   1  0 for i below R = M/3, then C(216 - (108 / R) * (2 * j + 1)) for i = R + j, j below R, then 67108864: a rise in the middle third alone
+ *
+ * The earlier block falls by the same entries, mirrored: entry M - 1 - i at place i. So W, the window of a block whose joints have the shapes
+ * `left` and `right`, is W(i) = entry i of left's half, i below M, and W(i) = entry N - 1 - i of right's half from M on. A block does not reach
+ * into the outer third of a hop whose joint is short: around a click, short joints keep what is done to coefficients nearer to it.
  *
  * Each call returns a number:
  *
@@ -15,6 +25,7 @@
  *   3  a coefficient is below -536870912 or above 536870912
  *   4  the state's entry 0 is not tabled, or one of its first M tail entries lies beyond plus or minus M * 2^55
  *   7  a block's number is not the one that the state expects
+ *   8  a shape is above 1, or a block's left shape is not the one that the state expects
  *
  * Under each call stand its numbers in the order in which they are tested; the first cause that holds is returned. Every check is made before
  * anything is written: where the returned number is not 0, every buffer and the state hold what they held. Where it is 0, the buffer that the
@@ -27,9 +38,9 @@
  * These are promises for every value of every argument, under what C cannot check: each pointer is not null, also where its length is 0, is
  * aligned, and points to as many entries as the length that follows it says; the buffers of one call do not overlap; nothing else writes to
  * them, or reads what is being written, until the call returns. A size is without a sign: a negative number handed in for one arrives as a
- * huge size, and is refused as such. A block's number has 32 bits: of a wider one its low 32 bits arrive. The numbers returned, and what each
- * buffer then holds, are the contracts of crates/c_face/src/lib.rt, which are proved; what is said of chains of states, of the distance of
- * returned sound and of reading a page are theorems of crates/demands over the same definitions.
+ * huge size, and is refused as such. A block's number and a shape have 32 bits: of a wider one its low 32 bits arrive. The numbers returned, and
+ * what each buffer then holds, are the contracts of crates/c_face/src/lib.rt, which are proved; what is said of chains of states, of the
+ * distance of returned sound and of reading a page are theorems of crates/demands over the same definitions.
  */
 #ifndef DAPPLESCREE_H
 #define DAPPLESCREE_H
@@ -41,72 +52,82 @@
 extern "C" {
 #endif
 
-/* The entries of a state: N, the expected number, and then the tail's storage. Write the name and not the number: later versions have another. */
-#define DAPPLESCREE_STATE 110
+/* The entries of a state: N, the expected number, the expected shape, and then the tail's storage. Write the name and not the number: earlier
+ * versions had another. */
+#define DAPPLESCREE_STATE 111
 
 /* Which entry holds the number of the block that the state expects. It is 4294967296, which no block has, once the last number is taken. */
 #define DAPPLESCREE_EXPECTED 1
 
+/* Which entry holds the left shape that the state expects: the right shape of the block that it took last, 0 when fresh. */
+#define DAPPLESCREE_SHAPE 2
+
 /* The bytes of a page of `hops` hops at the tabled length n: a line of 81 for every six coefficients. It reads each argument once. */
 #define DAPPLESCREE_PAGE(n, hops) (((size_t)(hops) + 1) * ((size_t)(n) / 12) * 81)
 
-/* One block, analysed directly.
+/* One block whose joints have the shapes left and right, analysed directly.
  *   1  n is not tabled
+ *   8  left or right is above 1
  *   2  samples_length is not N, or coefficients_length is not M
  *   0  coefficients[k] is X(k) = rnd(S(k) / 2^28), k below M, with S(k) the sum over i of y(i) * K(i,k), y(i) = rnd(W(i) * samples[i] / 2^18)
  */
-uint32_t dapplescree_analyse_direct(size_t n, const int16_t *samples, size_t samples_length, int32_t *coefficients,
-                                    size_t coefficients_length);
+uint32_t dapplescree_analyse_direct(size_t n, uint32_t left, uint32_t right, const int16_t *samples, size_t samples_length,
+                                    int32_t *coefficients, size_t coefficients_length);
 
-/* One block, analysed by the short route.
+/* One block whose joints have the shapes left and right, analysed by the short route.
  *   1  n is not 12, 24, 36 or 72
+ *   8  as above
  *   2  as above
- *   0  coefficients[k] is the short route's X(k), k below M: equal to the direct one where k leaves 1 when divided by 3, else within
- *      16 of it
+ *   0  coefficients[k] is the short route's X(k), k below M: equal to the direct one of the same shapes where k leaves 1 when divided by 3, else
+ *      within 16 of it
  */
-uint32_t dapplescree_analyse_short(size_t n, const int16_t *samples, size_t samples_length, int32_t *coefficients,
-                                   size_t coefficients_length);
+uint32_t dapplescree_analyse_short(size_t n, uint32_t left, uint32_t right, const int16_t *samples, size_t samples_length,
+                                   int32_t *coefficients, size_t coefficients_length);
 
 /* Makes a fresh stream.
  *   1  n is not tabled
  *   2  state_length is not DAPPLESCREE_STATE
- *   0  state[0] is N and every other entry is 0: block 0 is expected
+ *   0  state[0] is N and every other entry is 0: block 0 is expected, with a long left joint
  */
 uint32_t dapplescree_stream_fresh(size_t n, int64_t *state, size_t state_length);
 
-/* One synthesis step, for the block that bears this number. N is state[0], the expected number is state[DAPPLESCREE_EXPECTED], and tail(i) is
- * state[2 + i].
+/* One synthesis step, for the block that bears this number and whose joints have the shapes left and right. N is state[0], the expected number is
+ * state[DAPPLESCREE_EXPECTED], the expected shape is state[DAPPLESCREE_SHAPE], and tail(i) is state[3 + i].
  *   2  state_length is not DAPPLESCREE_STATE
  *   4  state[0] is not tabled (a negative number is not), or a tail entry, i below M, lies beyond plus or minus M * 2^55
  *   7  number is not the expected one; every number, where the expected one is below 0 or above 4294967295
+ *   8  left or right is above 1, or left is not the expected shape; every block, where the expected shape is below 0 or above 1
  *   2  coefficients_length is not M, or hop_length is not M
  *   3  a coefficient is beyond its limit
  *   0  hop[i] is rnd((tail(i) + V(i)) / (N * 2^30)), clamped to -32768 .. 32767, i below M, with V(i) = W(i) * U(i) and
- *      U(i) = rnd((the sum over k of coefficients[k] * K(i,k)) / 2^26); the expected number then is one more, and tail(i) is V(M + i),
- *      i below M; state[0] and the tail's storage from M on are kept
- * A state that was made by dapplescree_stream_fresh and changed by this call alone is never refused with 4, and what it expects is the number of
- * steps that it has taken: so blocks are taken as 0, 1, 2 .. without a gap, and one that is early, late or repeated is 7. Block 4294967295 is
- * the last that a stream takes: after it no number is expected, 0 neither, and every block is 7.
+ *      U(i) = rnd((the sum over k of coefficients[k] * K(i,k)) / 2^26); the expected number then is one more, the expected shape is `right`, and
+ *      tail(i) is V(M + i), i below M; state[0] and the tail's storage from M on are kept
+ * A state that was made by dapplescree_stream_fresh and changed by this call alone is never refused with 4, and the number that it expects is how
+ * many steps it has taken: so blocks are taken as 0, 1, 2 .. without a gap, and one that is early, late or repeated is 7. Block 4294967295 is
+ * the last that a stream takes: after it no number is expected, 0 neither, and every block is 7. The shape that it expects is the right shape of
+ * the last block taken, 0 before the first: so the two blocks of a joint have the same shape there, and a running stream passes from one shape
+ * to the other at any joint.
  *
  * The first hop of a fresh stream is the run-in. Blocks may be offered to a fresh stream in whatever order, and however often. Where each one
- * that is taken under number b is block b of one recording, as analysis gave it or with each coefficient changed by at most Q, the step taken
- * under b, b at least 1, returns the recording's hop b - 1, each sample within (Q + 8) / 16 of it, rounded down, so equal up to Q = 7; Q + 16
- * stands for Q where block b - 1 or b was analysed by the short route. Nothing is asked of a block that is refused: it changes nothing, and
- * returns no hop. A caller who analyses block by block hands in zeros for the hop before the recording and for the one after it.
+ * that is taken under number b is block b of one recording, as analysis with the shapes that it is offered with gave it or with each coefficient
+ * changed by at most Q, the step taken under b, b at least 1, returns the recording's hop b - 1, each sample within (Q + 8) / 16 of it, rounded
+ * down, so equal up to Q = 7, in any mixture of shapes; Q + 16 stands for Q where block b - 1 or b was analysed by the short route. Nothing is
+ * asked of a block that is refused: it changes nothing, and returns no hop. A caller who analyses block by block hands in zeros for the hop
+ * before the recording and for the one after it.
  */
-uint32_t dapplescree_stream_step(int64_t *state, size_t state_length, uint32_t number, const int32_t *coefficients,
-                                 size_t coefficients_length, int16_t *hop, size_t hop_length);
+uint32_t dapplescree_stream_step(int64_t *state, size_t state_length, uint32_t number, uint32_t left, uint32_t right,
+                                 const int32_t *coefficients, size_t coefficients_length, int16_t *hop, size_t hop_length);
 
-/* A whole recording of `hops` hops, each block analysed directly.
+/* A whole recording of `hops` hops, every joint of it long, each block analysed directly.
  *   1  n is not tabled
  *   2  hops is not 1 to 4095, samples_length is not hops * M, or coefficients_length is not (hops + 1) * M
- *   0  coefficients[b * M + k] is coefficient k that dapplescree_analyse_direct gives for block b, b from 0 to hops: the samples from
- *      samples[(b - 1) * M] to samples[(b + 1) * M - 1], with 0 for each that lies outside
+ *   0  coefficients[b * M + k] is coefficient k that dapplescree_analyse_direct gives, with both shapes 0, for block b, b from 0 to hops: the
+ *      samples from samples[(b - 1) * M] to samples[(b + 1) * M - 1], with 0 for each that lies outside
  */
 uint32_t dapplescree_analyse_recording_direct(size_t n, size_t hops, const int16_t *samples, size_t samples_length,
     int32_t *coefficients, size_t coefficients_length);
 
-/* A whole recording, each block analysed by the short route.
+/* A whole recording, every joint of it long, each block analysed by the short route.
  *   1  n is not 12, 24, 36 or 72
  *   2  as above
  *   0  the same, with dapplescree_analyse_short
@@ -114,15 +135,15 @@ uint32_t dapplescree_analyse_recording_direct(size_t n, size_t hops, const int16
 uint32_t dapplescree_analyse_recording_short(size_t n, size_t hops, const int16_t *samples, size_t samples_length,
     int32_t *coefficients, size_t coefficients_length);
 
-/* Synthesis of a whole recording of `hops` hops.
+/* Synthesis of a whole recording of `hops` hops, every joint of it long.
  *   1  n is not tabled
  *   2  hops is not 1 to 4095, coefficients_length is not (hops + 1) * M, or samples_length is not hops * M
  *   3  a coefficient is beyond its limit, in whichever block
- *   0  samples[h * M + i] is hop sample i of step h + 1, h below hops, where step b, b from 0 to hops, is taken under number b, from a fresh
- *      stream on, with coefficients[b * M] .. coefficients[b * M + M - 1]; the run-in, the hop of step 0, is dropped
- * Where the coefficients are as analysis gave them for the recording's blocks, by these calls or block by block, each changed by at most Q,
- * every sample is within (Q + 8) / 16 of the recording's at the same place, rounded down, so equal up to Q = 7; Q + 16 stands for Q where one
- * of the two blocks that cover it was analysed by the short route.
+ *   0  samples[h * M + i] is hop sample i of step h + 1, h below hops, where step b, b from 0 to hops, is taken under number b and both shapes 0,
+ *      from a fresh stream on, with coefficients[b * M] .. coefficients[b * M + M - 1]; the run-in, the hop of step 0, is dropped
+ * Where the coefficients are as analysis gave them for the recording's blocks, by these calls or block by block with both shapes 0, each changed
+ * by at most Q, every sample is within (Q + 8) / 16 of the recording's at the same place, rounded down, so equal up to Q = 7; Q + 16 stands for
+ * Q where one of the two blocks that cover it was analysed by the short route.
  */
 uint32_t dapplescree_synthesise_recording(size_t n, size_t hops, const int32_t *coefficients, size_t coefficients_length,
     int16_t *samples, size_t samples_length);

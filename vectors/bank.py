@@ -1,4 +1,4 @@
-"""Document 01, with P1, P2, P4, P5 and P6 of document 02, in exact whole numbers, as plainly as they are written: the source of every stored output.
+"""Document 01, with P1, P2 and P4 to P7 of document 02, in exact whole numbers, as plainly as they are written: the source of every stored output.
 It shares no table, folding or rounding with the crates."""
 from fractions import Fraction
 from functools import cache
@@ -39,6 +39,31 @@ def W(N, n):
     return C(216 // N * (N - 2 * n - 1))
 
 
+# The shapes of a joint.
+LONG, SHORT = 0, 1
+SHAPES = (LONG, SHORT)
+
+
+def rising(shape, N):
+    """The M entries of the half that rises over a joint."""
+    if shape == LONG:
+        return [W(N, n) for n in range(N // 2)]
+    R = N // 6
+    # the sine of (2j + 1)/(8R) of a turn is the cosine of a quarter less that
+    return [0] * R + [C(216 - 108 // R * (2 * j + 1)) for j in range(R)] + [2**26] * R
+
+
+def falling(shape, N):
+    """Its mirror."""
+    return rising(shape, N)[::-1]
+
+
+@cache
+def window(N, left, right):
+    """The N entries for a block, by the shapes of its left joint and its right one."""
+    return rising(left, N) + falling(right, N)
+
+
 def K(N, n, k):
     return C(216 // N * (2 * n + 1 + N // 2) * (2 * k + 1))
 
@@ -54,20 +79,20 @@ def clamp(z):
 # Analysis. x is a block of N samples, y its N windowed samples.
 
 
-def y(N, x):
-    return [rnd(W(N, n) * x[n], 2**18) for n in range(N)]
+def y(N, left, right, x):
+    return [rnd(w * x[n], 2**18) for n, w in enumerate(window(N, left, right))]
 
 
 def S(N, y):
     return [sum(y[n] * K(N, n, k) for n in range(N)) for k in range(N // 2)]
 
 
-def direct(N, x):
-    return [rnd(s, 2**28) for s in S(N, y(N, x))]
+def direct(N, left, right, x):
+    return [rnd(s, 2**28) for s in S(N, y(N, left, right, x))]
 
 
-def short(N, x):
-    yy, d, third, sixth = y(N, x), 216 // N, N // 3, N // 6
+def short(N, left, right, x):
+    yy, d, third, sixth = y(N, left, right, x), 216 // N, N // 3, N // 6
     main, rB, rC = [], [], []
     for n in range(third):
         a, b, c = yy[third - 1 - n], yy[2 * third - 1 - n], yy[N - 1 - n]
@@ -99,17 +124,17 @@ def U(N, X):
     return [rnd(sum(X[k] * K(N, n, k) for k in range(N // 2)), 2**26) for n in range(N)]
 
 
-def V(N, X):
-    return [W(N, n) * u for n, u in enumerate(U(N, X))]
+def V(N, left, right, X):
+    return [w * u for w, u in zip(window(N, left, right), U(N, X))]
 
 
-def next_hop(N, tail, X):
+def next_hop(N, tail, left, right, X):
     """The hop and the new tail of M entries."""
-    M, v = N // 2, V(N, X)
+    M, v = N // 2, V(N, left, right, X)
     return [clamp(rnd(tail[n] + v[n], N * 2**30)) for n in range(M)], v[M:]
 
 
-# Whole recordings. x is a recording's H × M samples.
+# Whole recordings, at long joints. x is a recording's H × M samples.
 
 
 def blocks(N, x):
@@ -123,7 +148,7 @@ def hops(N, spectra):
     """The hops that come back from the coefficients of its blocks, stepped from a fresh stream. The run-in, that of block 0, is dropped."""
     returned, tail = [], [0] * (N // 2)
     for X in spectra:
-        hop, tail = next_hop(N, tail, X)
+        hop, tail = next_hop(N, tail, LONG, LONG, X)
         returned.append(hop)
     return returned[1:]
 
@@ -146,7 +171,7 @@ def page_lines(N, X):
 
 
 # The calls. Each gives its number and what it writes; None: every buffer and stream is left as it was.
-# A stream is N, the number of the block that it expects (2^32 for none) and the STORAGE entries of its tail.
+# A stream is N, the number of the block that it expects (2^32 for none), the shape of the left joint that it expects, and the STORAGE entries of its tail.
 # A buffer that is only written stands as its length.
 
 COEFFICIENT_LIMIT = 536870912
@@ -161,34 +186,39 @@ def beyond(X):
     return any(abs(c) > COEFFICIENT_LIMIT for c in X)
 
 
-def analyse(route, N, x, length):
+def analyse(route, N, left, right, x, length):
     if N not in OFFERED[route]:
         return 1, None
+    if left not in SHAPES or right not in SHAPES:
+        return 8, None
     if len(x) != N or length != N // 2:
         return 2, None
-    return 0, ROUTES[route](N, x)
+    return 0, ROUTES[route](N, left, right, x)
 
 
 def fresh(N):
     if N not in LENGTHS:
-        return 1, (0, 0, [0] * STORAGE)
-    return 0, (N, 0, [0] * STORAGE)
+        return 1, (0, 0, LONG, [0] * STORAGE)
+    return 0, (N, 0, LONG, [0] * STORAGE)
 
 
-def step(stream, b, X, length):
-    """The number, the hop and the stream to go on with. X is offered as block b."""
-    N, expected, tail = stream
+def step(stream, b, left, right, X, length):
+    """The number, the hop and the stream to go on with. X is offered as block b, with the shapes of its joints."""
+    N, expected, shape, tail = stream
     if N not in LENGTHS or any(abs(t) > tail_limit(N) for t in tail[: N // 2]):
         return 4, None, stream
     # b has 32 bits: every b differs from an expected number beyond them, or below 0
     if b != expected:
         return 7, None, stream
+    # so does every left shape from one beyond SHAPES
+    if left not in SHAPES or right not in SHAPES or left != shape:
+        return 8, None, stream
     if len(X) != N // 2 or length != N // 2:
         return 2, None, stream
     if beyond(X):
         return 3, None, stream
-    hop, new = next_hop(N, tail, X)
-    return 0, hop, (N, expected + 1, new + tail[N // 2 :])
+    hop, new = next_hop(N, tail, left, right, X)
+    return 0, hop, (N, expected + 1, right, new + tail[N // 2 :])
 
 
 def analyse_recording(route, N, H, x, length):
@@ -197,7 +227,7 @@ def analyse_recording(route, N, H, x, length):
     M = N // 2
     if not 1 <= H <= HOPS or len(x) != H * M or length != (H + 1) * M:
         return 2, None
-    return 0, [c for block in blocks(N, x) for c in ROUTES[route](N, block)]
+    return 0, [c for block in blocks(N, x) for c in ROUTES[route](N, LONG, LONG, block)]
 
 
 def synthesise_recording(N, H, X, length):
@@ -229,14 +259,15 @@ def inner(N, H, out):
     return out
 
 
-# The calls over a state, in place and of include/dapplescree.h: N, the expected number and then the tail. A state is returned as it then stands.
+# The calls over a state, in place and of include/dapplescree.h: N, the expected number, the expected shape and then the tail. A state is returned as it
+# then stands.
 
-STATE = 2 + STORAGE
+STATE = 3 + STORAGE
 
 
 def state_of(stream):
-    N, expected, tail = stream
-    return [N, expected] + tail
+    N, expected, shape, tail = stream
+    return [N, expected, shape] + tail
 
 
 def stream_fresh(N, state):
@@ -248,10 +279,10 @@ def stream_fresh(N, state):
     return 0, state_of(stream)
 
 
-def stream_step(state, b, X, length):
+def stream_step(state, b, left, right, X, length):
     if len(state) != STATE:
         return 2, None, state
-    number, hop, stream = step((state[0], state[1], state[2:]), b, X, length)
+    number, hop, stream = step((*state[:3], state[3:]), b, left, right, X, length)
     return number, hop, state_of(stream)
 
 
@@ -293,5 +324,5 @@ def listing(data):
     if rest:
         return refused(5, len(lines) + 1)
     rows = [["hop"] + [f"s{n}" for n in range(M)]]
-    rows += [[h] + hop for h, hop in enumerate(hops(N, [direct(N, block) for block in blocks(N, samples)]))]
+    rows += [[h] + hop for h, hop in enumerate(hops(N, [direct(N, LONG, LONG, block) for block in blocks(N, samples)]))]
     return "".join(",".join(str(f) for f in row) + "\n" for row in rows).encode()

@@ -1,19 +1,45 @@
 """The drawing of one block of thirty-six samples. Run: python3 vectors/block36.py docs/block36.svg
 It writes that one file. The window, the fold partners and their signs are computed from the definitions of bank.py and held against equation (41)
-of source 003. The sheet is A4 landscape, five units to a millimetre."""
+of source 003. Its sheet is that of sheet.py."""
 import sys
 
-from bank import C, K, W
+from bank import LONG, C, K, window
+from sheet import (
+    ARROW,
+    CELL,
+    DASHED,
+    DEEP_FIRST,
+    DEEP_SECOND,
+    DEEP_SOUND,
+    DEEP_TAIL,
+    FIRST,
+    GREY,
+    INK,
+    LEFT,
+    PALE,
+    RED,
+    RIGHT,
+    SECOND,
+    SOUND,
+    TAIL,
+    M,
+    N,
+    axis,
+    begin,
+    cells,
+    dot,
+    label,
+    left,
+    line,
+    middle,
+    path,
+    rect,
+    text,
+    write,
+)
 
-N = 36
-M = N // 2
 h = N // 4
-CELL, LEFT = 35, 166
-RIGHT = LEFT + N * CELL
-WIDTH, HEIGHT = 1485, 1050
-INK, GREY, RED = "#1a1a1a", "#666666", "#b00020"
-FIRST, SECOND, TAIL, SOUND = "#d6e6f5", "#fbe3c6", "#e4daf1", "#d9edd2"
-DEEP_FIRST, DEEP_SECOND, DEEP_TAIL, DEEP_SOUND = "#1f5a8f", "#a85a00", "#5d3f92", "#2e6b1f"
+WINDOW = window(N, LONG, LONG)
 
 
 def F(j, k):
@@ -31,70 +57,8 @@ FOLD = [folded(n) for n in range(N)]
 # equation (41): z(j) = − y(3h−1−j) − y(3h+j) for j < h, and y(j−h) − y(3h−1−j) from h on
 for j in range(M):
     assert {n: sign for n, (sign, i) in enumerate(FOLD) if i == j} == ({3 * h - 1 - j: -1, 3 * h + j: -1} if j < h else {j - h: 1, 3 * h - 1 - j: -1})
-out = []
 
-
-def left(n):
-    return LEFT + n * CELL
-
-
-def middle(n):
-    return left(n) + CELL / 2
-
-
-def num(z):
-    return f"{z:.1f}".removesuffix(".0")
-
-
-def text(x, y, words, size=15, anchor="middle", fill=INK, weight="normal"):
-    look = f'font-size="{size}" text-anchor="{anchor}" fill="{fill}" font-weight="{weight}"'
-    wide = words if isinstance(words, int) else words.replace("   ", "\u00a0\u00a0 ")
-    out.append(f'<text x="{num(x)}" y="{num(y)}" {look}>{wide}</text>')
-
-
-def line(x1, y1, x2, y2, stroke=INK, width=1.2, more=""):
-    out.append(f'<line x1="{num(x1)}" y1="{num(y1)}" x2="{num(x2)}" y2="{num(y2)}" stroke="{stroke}" stroke-width="{width}"{more}/>')
-
-
-def rect(x, y, w, h, fill, stroke=INK, width=1, more=""):
-    out.append(f'<rect x="{num(x)}" y="{num(y)}" width="{num(w)}" height="{num(h)}" fill="{fill}" stroke="{stroke}" stroke-width="{width}"{more}/>')
-
-
-def path(points, stroke, width=1.4, more=""):
-    d = "M" + " L".join(f"{num(x)},{num(y)}" for x, y in points)
-    out.append(f'<path d="{d}" fill="none" stroke="{stroke}" stroke-width="{width}"{more}/>')
-
-
-def label(y, *lines):
-    """Words in the left column; the first line is the name."""
-    for i, words in enumerate(lines):
-        text(LEFT - 14, y + 19 * i, words, 15 if i == 0 else 13, "end", INK if i == 0 else GREY, "bold" if i == 0 else "normal")
-
-
-def cells(y, h, places, words, fill, size=15):
-    for n, w in zip(places, words):
-        rect(left(n), y, CELL, h, fill)
-        text(middle(n), y + h / 2 + size * 0.36, w, size)
-
-
-def hop_of(n):
-    return FIRST if n < M else SECOND
-
-
-out.append(
-    f'<svg xmlns="http://www.w3.org/2000/svg" width="297mm" height="210mm" viewBox="0 0 {WIDTH} {HEIGHT}" '
-    'font-family="DejaVu Sans, Verdana, Helvetica, Arial, sans-serif">'
-)
-out.append(
-    '<defs><marker id="head" viewBox="0 0 10 10" refX="9" refY="5" markerWidth="8" markerHeight="8" orient="auto">'
-    f'<path d="M0,0 L10,5 L0,10 z" fill="{INK}"/></marker></defs>'
-)
-rect(0, 0, WIDTH, HEIGHT, "white", "none")
-ARROW = ' marker-end="url(#head)"'
-
-# heading
-text(LEFT, 48, "One block of thirty-six samples", 29, "start", weight="bold")
-text(RIGHT, 48, "N = 36,   M = N/2 = 18,   d = 216/N = 6", 18, "end")
+begin("One block of thirty-six samples", "N = 36,   M = N/2 = 18,   d = 216/N = 6,   both joints long")
 
 # the two hops and the window
 top, base = 132, 252
@@ -110,17 +74,13 @@ def height(w):
     return base - (base - top) * w / 2**26
 
 
-line(LEFT, base, RIGHT, base, GREY)
-for y, words in ((top, "2²⁶"), (base, "0")):
-    line(LEFT - 6, y, LEFT, y, GREY)
-    text(LEFT - 10, y + 5, words, 13, "end", GREY)
-line(LEFT, top, RIGHT, top, "#c8c8c8", 1, ' stroke-dasharray="2 5"')
-DASHED = ' stroke-dasharray="7 5"'
-path([(middle(n), height(W(N, M + n))) for n in range(M)], GREY, 1.3, DASHED)
-path([(middle(M + n), height(W(N, n))) for n in range(M)], GREY, 1.3, DASHED)
-for n in range(N):
-    line(middle(n), base, middle(n), height(W(N, n)), DEEP_FIRST if n < M else DEEP_SECOND, 1.6)
-    out.append(f'<circle cx="{num(middle(n))}" cy="{num(height(W(N, n)))}" r="3.6" fill="{DEEP_FIRST if n < M else DEEP_SECOND}"/>')
+axis(top, base, RIGHT)
+path([(middle(n), height(WINDOW[M + n])) for n in range(M)], GREY, 1.3, DASHED)
+path([(middle(M + n), height(WINDOW[n])) for n in range(M)], GREY, 1.3, DASHED)
+for n, w in enumerate(WINDOW):
+    deep = DEEP_FIRST if n < M else DEEP_SECOND
+    line(middle(n), base, middle(n), height(w), deep, 1.6)
+    dot(middle(n), height(w), deep)
 label(184, "window", "W(n)")
 text(middle(0), 118, "block b − 1", 14, "start", GREY)
 text(left(M), 118, "this block, b", 15, "middle", weight="bold")
@@ -158,7 +118,7 @@ text(left(3 * h), foot, f"z(j) = − y({3 * h - 1} − j) − y({3 * h} + j),   
 
 # there and back
 y = foot + 16
-rect(LEFT, y, N * CELL, 62, "#f3f3f3", "#9a9a9a", 1, ' rx="8"')
+rect(LEFT, y, N * CELL, 62, PALE, "#9a9a9a", 1, ' rx="8"')
 text(LEFT + 18, y + 26, "Analysis", 15, "start", weight="bold")
 text(
     LEFT + 124,
@@ -231,7 +191,7 @@ for i, x, fills, words in (
         rect(x + 54 - 24 * (len(fills) - at), y - 7, 24, 14, fill)
 y = entry(2, 40, "W(n) of block b; dashed: the windows of the blocks before and after")
 line(50, y + 7, 50, y - 5, DEEP_FIRST, 1.6)
-out.append(f'<circle cx="50" cy="{num(y - 5)}" r="3.6" fill="{DEEP_FIRST}"/>')
+dot(50, y - 5, DEEP_FIRST)
 path([(62, y), (94, y)], GREY, 1.3, DASHED)
 y = entry(3, 40, "the sign that y(n) has in its sum z(j), and that u(j) has at its place n")
 text(56, y + 7, "+", 20, weight="bold")
@@ -257,8 +217,4 @@ for i, words in enumerate(
     1,
 ):
     text(SECOND_COLUMN, row + 3 + LINE * i, words, 14, "start")
-out.append("</svg>")
-
-if __name__ == "__main__":
-    with open(sys.argv[1], "w", encoding="utf-8", newline="\n") as file:
-        file.write("\n".join(out) + "\n")
+write(sys.argv[1])

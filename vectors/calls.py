@@ -2,9 +2,10 @@
 Fields are parted by semicolons, entries of a list by commas. '=' says that a buffer is left as it was."""
 import random
 import sys
+from itertools import product
 
 import bank
-from bank import COEFFICIENT_LIMIT, HOPS, LENGTHS, ROUTES, SHORT_LENGTHS, STATE, STORAGE, page_length, tail_limit
+from bank import COEFFICIENT_LIMIT, HOPS, LENGTHS, ROUTES, SHAPES, SHORT_LENGTHS, STATE, STORAGE, page_length, tail_limit
 
 rounds = int(sys.argv[1]) if len(sys.argv) > 1 else 25
 rng = random.Random(int(sys.argv[2]) if len(sys.argv) > 2 else 1)
@@ -54,6 +55,11 @@ def near_hops(H):
     return rng.choice([H] * 24 + [0, H + 1, H - 1, HOPS + 1, 2**32 + H, 2**63, 2**63 + H, 2**64 - 1])
 
 
+def near_shape(shape):
+    """A shape, mostly this one, or a number that is none."""
+    return rng.choice([shape] * 40 + [*SHAPES, 2, 3, 2**31, LAST])
+
+
 def state(N):
     limit = tail_limit(N)
     top = rng.choice([0, N * 2**29, N * 2**45, limit])
@@ -69,7 +75,10 @@ def state(N):
     expected = rng.choice([0, 1, rng.randint(0, LAST), LAST])
     if case == 5:
         expected = rng.choice([LAST + 1, LAST + 2, 2**63 - 1, -1, -LAST, -(2**32), -(2**63)])
-    whole = [first, expected] + tail + rest
+    shape = rng.choice(SHAPES)
+    if case == 6:
+        shape = rng.choice([2, 3, LAST + 1, LAST + 2, 2**63 - 1, -1, -2, -(2**32), -(2**63)])
+    whole = [first, expected, shape] + tail + rest
     return whole[:-1] if case == 3 else whole + [7] if case == 4 else whole
 
 
@@ -82,18 +91,21 @@ def near_number(state):
 def stepped(before, M):
     """Prints a step, and gives the state to go on with."""
     number, x, length = near_number(before), coefficients(near(M)), near(M)
+    shapes = near_shape(before[2] % 2**32), near_shape(rng.choice(SHAPES))
     if rng.randrange(6) == 0:
         spoil(x)
-    answer = bank.stream_step(before, number, x, length)
-    line("stream_step", before, number, x, length, *answer)
+    answer = bank.stream_step(before, number, *shapes, x, length)
+    line("stream_step", before, number, *shapes, x, length, *answer)
     return answer[2]
 
 
 for t in range(-1200, 3000):
     line("C", t, bank.C(t))
 for N in LENGTHS:
+    for shapes in product(SHAPES, SHAPES):
+        for n, w in enumerate(bank.window(N, *shapes)):
+            line("W", N, *shapes, n, w)
     for n in range(N):
-        line("W", N, n, bank.W(N, n))
         for k in range(N // 2):
             line("K", N, n, k, bank.K(N, n, k))
 for N in SHORT_LENGTHS:
@@ -101,9 +113,9 @@ for N in SHORT_LENGTHS:
         for k in range(N // 6):
             line("L", N, n, k, bank.L(N, n, k))
 
-# every n up to two beyond the longest, twice the longest, and numbers that pass for 12 or -1 where upper bits are lost; 38 is a state with the tail of N = 72 alone
+# every n up to two beyond the longest, twice the longest, and numbers that pass for 12 or -1 where upper bits are lost; 39 is a state with the tail of N = 72 alone
 for n in [*range(219), 432, 2**32 + 12, 2**63 + 12, 2**64 - 1]:
-    for length in (0, 38, STATE - 1, STATE, STATE + 1):
+    for length in (0, 39, STATE - 1, STATE, STATE + 1):
         before = [rng.randint(-(2**63), 2**63 - 1) for _ in range(length)]
         line("stream_fresh", n, before, *bank.stream_fresh(n, before))
 
@@ -112,8 +124,9 @@ for _ in range(rounds):
         M = N // 2
         n = rng.choice([N] * 9 + [0, 11, 48, 144, 2**64 - 1])
         for route in ROUTES:
-            x, length = samples(near(N)), near(M)
-            line("analyse", route, n, x, length, *bank.analyse(route, n, x, length))
+            for shapes in product(SHAPES, SHAPES):
+                shapes, x, length = [near_shape(shape) for shape in shapes], samples(near(N)), near(M)
+                line("analyse", route, n, *shapes, x, length, *bank.analyse(route, n, *shapes, x, length))
             H = rng.choice([1, 2, 3, 5])
             count, length = lengths(H, M)
             x, named = samples(count), near_hops(H)

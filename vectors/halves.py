@@ -2,7 +2,7 @@
 A block has the sample v at place i, w at place j, and zeros elsewhere; its coefficients differ from those of the rule before P5, by which a half went up.
 What is found stands in blocks.py and stream.py, and in the programs that they are for."""
 import bank
-from bank import LENGTHS, ROUTES, SHORT_LENGTHS, C, K, L, W, rnd
+from bank import LENGTHS, LONG, ROUTES, SHORT_LENGTHS, C, K, L, W, rnd
 
 SAMPLES = range(-32768, 32768)
 
@@ -23,7 +23,8 @@ def by_the_rule_before(call, *arguments):
 def shows(route, N, i, v, j, w):
     x = [0] * N
     x[i], x[j] = v, w
-    return ROUTES[route](N, x) != by_the_rule_before(ROUTES[route], N, x)
+    call = ROUTES[route], N, LONG, LONG, x
+    return call[0](*call[1:]) != by_the_rule_before(*call)
 
 
 def windowed(N, i):

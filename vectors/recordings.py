@@ -40,7 +40,7 @@ def quicken():
         assert quick_S(N, block) == bank.S(N, block)
         assert quick_U(N, block[: N // 2]) == bank.U(N, block[: N // 2])
     bank.S, bank.U = quick_S, quick_U
-    bank.W, bank.L = cache(bank.W), cache(bank.L)
+    bank.L = cache(bank.L)
 
 
 def line(word, *fields):

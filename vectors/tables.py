@@ -1,7 +1,7 @@
 """Writes the tables that the code lends. Nothing rests on it: each table is proved equal to its definition.
 python3 vectors/tables.py lib > crates/tables/src/lib.rt, the same for thirds, and sides > crates/sides/src/lib.rt. `rt fmt` lays them out."""
 import sys
-from bank import LENGTHS, SHORT_LENGTHS, C, W
+from bank import LENGTHS, LONG, SHORT, SHORT_LENGTHS, C, falling, rising
 
 # what is added to the kernel's numbers and to the rotation's, so that none is negative
 KERNEL, ROTATION = 2**26, 2**27
@@ -17,10 +17,18 @@ def s(N, n):
     return 2 * (216 // N) * (2 * n + 1)
 
 
+def const(name, values):
+    consts.append(f"const {name.upper()}: [i32; {len(values)}] = [{', '.join(map(str, values))}];\n")
+
+
+def function(name, parameters, length, definition, body, condition=None):
+    requires = f"    requires {{ ⌜ {condition} ⌝ }}\n" if condition else ""
+    functions.append(f"pub fn {name}({parameters}) -> [i32; {length}]\n{requires}    ensures {{ λ r. ⌜ r ≡ {definition} ⌝ }}\n{{\n    {body}\n}}\n")
+
+
 def table(name, values, definition):
-    size = f"[i32; {len(values)}]"
-    consts.append(f"const {name.upper()}: {size} = [{', '.join(map(str, values))}];\n")
-    functions.append(f"pub fn {name}() -> {size}\n    ensures {{ λ r. ⌜ r ≡ {definition} ⌝ }}\n{{\n    {name.upper()}\n}}\n")
+    const(name, values)
+    function(name, "", len(values), definition, name.upper())
 
 
 def rows(N):
@@ -33,15 +41,24 @@ def base(N):
     table(f"base_{N}", [sum(F(N, k, j) for j in range(M)) for k in range(M)], f"baseList {N}")
 
 
+def half(name, N, of):
+    const(f"{name}_{N}", of(LONG, N))
+    const(f"short_{name}_{N}", of(SHORT, N))
+    long = f"{name.upper()}_{N}"
+    function(f"{name}_{N}", "shape: u32", N // 2, f"{name}List shape {N}", f"if shape == 0 {{\n        return {long};\n    }}\n    SHORT_{long}")
+    if N in SHORT_LENGTHS:
+        function(f"long_{name}_{N}", "shape: u32", N // 2, f"{name}List shape {N}", long, "shape ≡ 0")
+
+
 def lib():
     for N in LENGTHS:
-        M = N // 2
-        table(f"rise_{N}", [W(N, n) for n in range(M)], f"riseList {N}")
-        table(f"fall_{N}", [W(N, M + n) for n in range(M)], f"fallList {N}")
+        half("rise", N, rising)
+        half("fall", N, falling)
         if 3 * N in LENGTHS:
             rows(N)
             base(N)
-    return """// The tables that the bank lends, for each length its own: each is a function, whose contract is its definition.
+    return """// The tables that the bank lends, for each length its own: each is a function, whose contract is its definition. The halves of a joint are lent by its shape;
+// up to N = 72 those of a long one also by a call of their own, for which the compiler knows the numbers.
 // Entry j × M + k of ROWS_N is F(k,j) + 2^26, which is never negative, and entry k of BASE_N the sum over j of F(k,j).
 // From 24 on a length's sums are made of its third's kernel and of the tables of `sides`.
 pub mod thirds;

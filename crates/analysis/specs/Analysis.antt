@@ -1,4 +1,4 @@
--- A block's coefficients by a route: definitions. Document 01, 'Analysis' and 'Short route'.
+-- A block's coefficients by a route: definitions. Document 01, 'Analysis' and 'Short route', and document 02, P7.
 use mathlib.Core.Bool.{Bool}
 use mathlib.Core.List.{List}
 use Prim.Native.Nat.{ℕ}
@@ -19,6 +19,6 @@ unfoldable pub spectrum : Route → ℕ → (ℕ → ℤ) → List ℤ
 spectrum Direct N y = direct N y
 spectrum Short N y = R.short N y
 
--- the M coefficients of a block x of N samples, by a route, with the sine window
-unfoldable pub coefficients : Route → ℕ → List ℤ → List ℤ
-coefficients route N x = spectrum route N (y N (rising N) (falling N) x)
+-- the M coefficients of a block x of N samples, by a route, with joints of the shapes left and right
+unfoldable pub coefficients : Route → (N left right : ℕ) → List ℤ → List ℤ
+coefficients route N left right x = spectrum route N (y N (rising left N) (falling right N) x)

@@ -26,6 +26,6 @@ unfolding spectrum direct short
 spectrum-length Direct N u = length-table (X N u) (N / 2)
 spectrum-length Short N u = length-table (shortX N u) (N / 2)
 
-pub coefficients-length : (route : Route) (N : ℕ) (x : List ℤ) → length (coefficients route N x) ≡ N / 2
+pub coefficients-length : (route : Route) (N l r : ℕ) (x : List ℤ) → length (coefficients route N l r x) ≡ N / 2
 unfolding coefficients
-coefficients-length route N x = spectrum-length route N (y N (rising N) (falling N) x)
+coefficients-length route N l r x = spectrum-length route N (y N (rising l N) (falling r N) x)

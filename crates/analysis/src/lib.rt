@@ -15,13 +15,13 @@ pub enum Route {
     Short,
 }
 
-// A valid block's coefficients, by a route.
-pub fn analyse_block(route: Route, n: usize, x: &[i16], out: &mut [i32])
+// A valid block's coefficients, by a route, with joints of the shapes left and right.
+pub fn analyse_block(route: Route, n: usize, left: u32, right: u32, x: &[i16], out: &mut [i32])
     requires { ⌜ T (offered route n) × (length (now x) ≡ n) × (length (now out) ≡ n / 2) ⌝ }
-    ensures { λ _. ⌜ now (out .exit) ≡ coefficients route n (now (x .entry)) ⌝ }
+    ensures { λ _. ⌜ now (out .exit) ≡ coefficients route n left right (now (x .entry)) ⌝ }
 {
     match route {
-        Route::Direct => direct::analyse(n, x, out),
-        Route::Short => short::analyse(n, x, out),
+        Route::Direct => direct::analyse(n, left, right, x, out),
+        Route::Short => short::analyse(n, left, right, x, out),
     }
 }

@@ -10,11 +10,11 @@ ghost use Rattle.transform.specs.Analysis.{y};
 ghost use Rattle.tables.specs.LiftLists.{liftList};
 ghost use Rattle.transform.specs.Stages.{Room};
 ghost use Rattle.split.specs.ShortRoute.{offered, Unrounded, short};
-ghost use Rattle.split.specs.PartLaws.{Given, Inputs, Parts, Rooms, summed, Summed};
+ghost use Rattle.split.specs.PartLaws.{Given, Inputs, Parts, Rooms, summed, Summed, Windowed};
 use split::parts;
 use split::thirds;
 
-// The split of y, at each length. At a short one the sums of each part by itself.
+// The split of y, at each length. Up to N = 36 the sums of each part by itself: their terms are too few for lifts to pay.
 fn middle_12(y: &[i32], rows: &[i32], t: &mut [i64])
     requires { ⌜ Given 12 (now y) ⌝ }
     requires { ⌜ now rows ≡ liftList 4 ⌝ }
@@ -123,63 +123,44 @@ fn split_24(y: &[i32], a: &mut [i64], plus: &mut [i64], minus: &mut [i64])
     thirds::outer_sums(24, y, a, &b, &g, plus, minus);
 }
 
-// A longer one: the inputs of its parts first, lifted, and then the sums of the three at once.
-fn inputs_b_36(y: &[i32], w: &mut [i32], z: &mut [i32], l: &mut [i32])
+fn middle_36(y: &[i32], rows: &[i32], t: &mut [i64])
     requires { ⌜ Given 36 (now y) ⌝ }
-    requires { ⌜ length (now w) ≡ 12 ⌝ }
-    requires { ⌜ Room 6 (now z) (now l) ⌝ }
-    ensures { λ _. ⌜ Inputs 1 36 (now (y .entry)) (now (l .exit)) ⌝ }
-{
-    let eb = tables::thirds::eb_36();
-    let fb = tables::thirds::fb_36();
-    thirds::fill_outer(36, 1, y, &eb, &fb, w);
-    parts::part_inputs(36, 1, y, w, z, l);
-}
-
-fn inputs_c_36(y: &[i32], w: &mut [i32], z: &mut [i32], l: &mut [i32])
-    requires { ⌜ Given 36 (now y) ⌝ }
-    requires { ⌜ length (now w) ≡ 12 ⌝ }
-    requires { ⌜ Room 6 (now z) (now l) ⌝ }
-    ensures { λ _. ⌜ Inputs 2 36 (now (y .entry)) (now (l .exit)) ⌝ }
-{
-    let ec = tables::thirds::ec_36();
-    let fc = tables::thirds::fc_36();
-    thirds::fill_outer(36, 2, y, &ec, &fc, w);
-    parts::part_inputs(36, 2, y, w, z, l);
-}
-
-fn inputs_36(y: &[i32], za: &mut [i32], zb: &mut [i32], zg: &mut [i32])
-    requires { ⌜ Given 36 (now y) ⌝ }
-    requires { ⌜ Rooms 6 (now za) (now zb) (now zg) ⌝ }
-    ensures { λ _. ⌜ Parts 36 (now (y .entry)) (now (za .exit)) (now (zb .exit)) (now (zg .exit)) ⌝ }
+    requires { ⌜ now rows ≡ liftList 12 ⌝ }
+    requires { ⌜ length (now t) ≡ 6 ⌝ }
+    ensures { λ _. ⌜ now (t .exit) ≡ summed 0 36 (now (y .entry)) ⌝ }
 {
     let mut w = [0i32; 12];
     let mut z = [0i32; 6];
     thirds::fill_middle(36, y, &mut w);
-    parts::part_inputs(36, 0, y, &w, &mut z, za);
-    inputs_b_36(y, &mut w, &mut z, zb);
-    inputs_c_36(y, &mut w, &mut z, zg);
+    parts::plain_sums(36, 0, y, &w, rows, &mut z, t);
 }
 
-fn sums_36(
-    y: &[i32],
-    za: &[i32],
-    zb: &[i32],
-    zg: &[i32],
-    a: &mut [i64],
-    b: &mut [i64],
-    g: &mut [i64],
-)
-    requires { ⌜ Parts 36 (now y) (now za) (now zb) (now zg) ⌝ }
-    requires { ⌜ Rooms 6 (now a) (now b) (now g) ⌝ }
-    ensures { λ _. ⌜ Summed 36 (now (y .entry)) (now (a .exit)) (now (b .exit)) (now (g .exit)) ⌝ }
+fn outer_b_36(y: &[i32], rows: &[i32], t: &mut [i64])
+    requires { ⌜ Given 36 (now y) ⌝ }
+    requires { ⌜ now rows ≡ liftList 12 ⌝ }
+    requires { ⌜ length (now t) ≡ 6 ⌝ }
+    ensures { λ _. ⌜ now (t .exit) ≡ summed 1 36 (now (y .entry)) ⌝ }
 {
-    let rows = tables::rows_12();
-    let base = tables::base_12();
-    parts::three(36, y, za, zb, zg, &rows, a, b, g);
-    parts::part_sums(36, 0, y, za, &base, a);
-    parts::part_sums(36, 1, y, zb, &base, b);
-    parts::part_sums(36, 2, y, zg, &base, g);
+    let eb = tables::thirds::eb_36();
+    let fb = tables::thirds::fb_36();
+    let mut w = [0i32; 12];
+    let mut z = [0i32; 6];
+    thirds::fill_outer(36, 1, y, &eb, &fb, &mut w);
+    parts::plain_sums(36, 1, y, &w, rows, &mut z, t);
+}
+
+fn outer_c_36(y: &[i32], rows: &[i32], t: &mut [i64])
+    requires { ⌜ Given 36 (now y) ⌝ }
+    requires { ⌜ now rows ≡ liftList 12 ⌝ }
+    requires { ⌜ length (now t) ≡ 6 ⌝ }
+    ensures { λ _. ⌜ now (t .exit) ≡ summed 2 36 (now (y .entry)) ⌝ }
+{
+    let ec = tables::thirds::ec_36();
+    let fc = tables::thirds::fc_36();
+    let mut w = [0i32; 12];
+    let mut z = [0i32; 6];
+    thirds::fill_outer(36, 2, y, &ec, &fc, &mut w);
+    parts::plain_sums(36, 2, y, &w, rows, &mut z, t);
 }
 
 fn split_36(y: &[i32], a: &mut [i64], plus: &mut [i64], minus: &mut [i64])
@@ -187,16 +168,16 @@ fn split_36(y: &[i32], a: &mut [i64], plus: &mut [i64], minus: &mut [i64])
     requires { ⌜ Rooms 6 (now a) (now plus) (now minus) ⌝ }
     ensures { λ _. ⌜ Unrounded 36 (at (now (y .entry))) (now (a .exit)) (now (plus .exit)) (now (minus .exit)) ⌝ }
 {
-    let mut za = [0i32; 6];
-    let mut zb = [0i32; 6];
-    let mut zg = [0i32; 6];
+    let rows = tables::rows_12();
     let mut b = [0i64; 6];
     let mut g = [0i64; 6];
-    inputs_36(y, &mut za, &mut zb, &mut zg);
-    sums_36(y, &za, &zb, &zg, a, &mut b, &mut g);
+    middle_36(y, &rows, a);
+    outer_b_36(y, &rows, &mut b);
+    outer_c_36(y, &rows, &mut g);
     thirds::outer_sums(36, y, a, &b, &g, plus, minus);
 }
 
+// A longer one: the inputs of its parts first, lifted, and then the sums of the three at once.
 fn inputs_b_72(y: &[i32], w: &mut [i32], z: &mut [i32], l: &mut [i32])
     requires { ⌜ Given 72 (now y) ⌝ }
     requires { ⌜ length (now w) ≡ 24 ⌝ }
@@ -270,86 +251,151 @@ fn split_72(y: &[i32], a: &mut [i64], plus: &mut [i64], minus: &mut [i64])
     thirds::outer_sums(72, y, a, &b, &g, plus, minus);
 }
 
-fn short_12(x: &[i16], out: &mut [i32])
+// The block, windowed. Long joints have a call of their own, for which the compiler knows the window's numbers.
+fn windowed_12(left: u32, right: u32, x: &[i16], block: &mut [i32])
+    requires { ⌜ length (now x) ≡ 12 ⌝ }
+    requires { ⌜ length (now block) ≡ 12 ⌝ }
+    ensures { λ _. ⌜ Windowed 12 left right (now (x .entry)) (now (block .exit)) ⌝ }
+{
+    if left == 0 {
+        if right == 0 {
+            let rise = tables::long_rise_12(left);
+            let fall = tables::long_fall_12(right);
+            split::windowed_block(12, left, right, &rise, &fall, x, block);
+            return;
+        }
+    }
+    let rise = tables::rise_12(left);
+    let fall = tables::fall_12(right);
+    split::windowed_block(12, left, right, &rise, &fall, x, block);
+}
+
+fn short_12(left: u32, right: u32, x: &[i16], out: &mut [i32])
     requires { ⌜ length (now x) ≡ 12 ⌝ }
     requires { ⌜ length (now out) ≡ 6 ⌝ }
-    ensures { λ _. ⌜ now (out .exit) ≡ short 12 (y 12 (rising 12) (falling 12) (now (x .entry))) ⌝ }
+    ensures { λ _. ⌜ now (out .exit) ≡ short 12 (y 12 (rising left 12) (falling right 12) (now (x .entry))) ⌝ }
 {
-    let rise = tables::rise_12();
-    let fall = tables::fall_12();
     let mut block = [0i32; 12];
     let mut a = [0i64; 2];
     let mut plus = [0i64; 2];
     let mut minus = [0i64; 2];
-    split::windowed_block(12, &rise, &fall, x, &mut block);
+    windowed_12(left, right, x, &mut block);
     split_12(&block, &mut a, &mut plus, &mut minus);
-    split::short_block(12, x, &block, &a, &plus, &minus, out);
+    split::short_block(12, left, right, x, &block, &a, &plus, &minus, out);
 }
 
-fn short_24(x: &[i16], out: &mut [i32])
+fn windowed_24(left: u32, right: u32, x: &[i16], block: &mut [i32])
+    requires { ⌜ length (now x) ≡ 24 ⌝ }
+    requires { ⌜ length (now block) ≡ 24 ⌝ }
+    ensures { λ _. ⌜ Windowed 24 left right (now (x .entry)) (now (block .exit)) ⌝ }
+{
+    if left == 0 {
+        if right == 0 {
+            let rise = tables::long_rise_24(left);
+            let fall = tables::long_fall_24(right);
+            split::windowed_block(24, left, right, &rise, &fall, x, block);
+            return;
+        }
+    }
+    let rise = tables::rise_24(left);
+    let fall = tables::fall_24(right);
+    split::windowed_block(24, left, right, &rise, &fall, x, block);
+}
+
+fn short_24(left: u32, right: u32, x: &[i16], out: &mut [i32])
     requires { ⌜ length (now x) ≡ 24 ⌝ }
     requires { ⌜ length (now out) ≡ 12 ⌝ }
-    ensures { λ _. ⌜ now (out .exit) ≡ short 24 (y 24 (rising 24) (falling 24) (now (x .entry))) ⌝ }
+    ensures { λ _. ⌜ now (out .exit) ≡ short 24 (y 24 (rising left 24) (falling right 24) (now (x .entry))) ⌝ }
 {
-    let rise = tables::rise_24();
-    let fall = tables::fall_24();
     let mut block = [0i32; 24];
     let mut a = [0i64; 4];
     let mut plus = [0i64; 4];
     let mut minus = [0i64; 4];
-    split::windowed_block(24, &rise, &fall, x, &mut block);
+    windowed_24(left, right, x, &mut block);
     split_24(&block, &mut a, &mut plus, &mut minus);
-    split::short_block(24, x, &block, &a, &plus, &minus, out);
+    split::short_block(24, left, right, x, &block, &a, &plus, &minus, out);
 }
 
-fn short_36(x: &[i16], out: &mut [i32])
+fn windowed_36(left: u32, right: u32, x: &[i16], block: &mut [i32])
+    requires { ⌜ length (now x) ≡ 36 ⌝ }
+    requires { ⌜ length (now block) ≡ 36 ⌝ }
+    ensures { λ _. ⌜ Windowed 36 left right (now (x .entry)) (now (block .exit)) ⌝ }
+{
+    if left == 0 {
+        if right == 0 {
+            let rise = tables::long_rise_36(left);
+            let fall = tables::long_fall_36(right);
+            split::windowed_block(36, left, right, &rise, &fall, x, block);
+            return;
+        }
+    }
+    let rise = tables::rise_36(left);
+    let fall = tables::fall_36(right);
+    split::windowed_block(36, left, right, &rise, &fall, x, block);
+}
+
+fn short_36(left: u32, right: u32, x: &[i16], out: &mut [i32])
     requires { ⌜ length (now x) ≡ 36 ⌝ }
     requires { ⌜ length (now out) ≡ 18 ⌝ }
-    ensures { λ _. ⌜ now (out .exit) ≡ short 36 (y 36 (rising 36) (falling 36) (now (x .entry))) ⌝ }
+    ensures { λ _. ⌜ now (out .exit) ≡ short 36 (y 36 (rising left 36) (falling right 36) (now (x .entry))) ⌝ }
 {
-    let rise = tables::rise_36();
-    let fall = tables::fall_36();
     let mut block = [0i32; 36];
     let mut a = [0i64; 6];
     let mut plus = [0i64; 6];
     let mut minus = [0i64; 6];
-    split::windowed_block(36, &rise, &fall, x, &mut block);
+    windowed_36(left, right, x, &mut block);
     split_36(&block, &mut a, &mut plus, &mut minus);
-    split::short_block(36, x, &block, &a, &plus, &minus, out);
+    split::short_block(36, left, right, x, &block, &a, &plus, &minus, out);
 }
 
-fn short_72(x: &[i16], out: &mut [i32])
+fn windowed_72(left: u32, right: u32, x: &[i16], block: &mut [i32])
+    requires { ⌜ length (now x) ≡ 72 ⌝ }
+    requires { ⌜ length (now block) ≡ 72 ⌝ }
+    ensures { λ _. ⌜ Windowed 72 left right (now (x .entry)) (now (block .exit)) ⌝ }
+{
+    if left == 0 {
+        if right == 0 {
+            let rise = tables::long_rise_72(left);
+            let fall = tables::long_fall_72(right);
+            split::windowed_block(72, left, right, &rise, &fall, x, block);
+            return;
+        }
+    }
+    let rise = tables::rise_72(left);
+    let fall = tables::fall_72(right);
+    split::windowed_block(72, left, right, &rise, &fall, x, block);
+}
+
+fn short_72(left: u32, right: u32, x: &[i16], out: &mut [i32])
     requires { ⌜ length (now x) ≡ 72 ⌝ }
     requires { ⌜ length (now out) ≡ 36 ⌝ }
-    ensures { λ _. ⌜ now (out .exit) ≡ short 72 (y 72 (rising 72) (falling 72) (now (x .entry))) ⌝ }
+    ensures { λ _. ⌜ now (out .exit) ≡ short 72 (y 72 (rising left 72) (falling right 72) (now (x .entry))) ⌝ }
 {
-    let rise = tables::rise_72();
-    let fall = tables::fall_72();
     let mut block = [0i32; 72];
     let mut a = [0i64; 12];
     let mut plus = [0i64; 12];
     let mut minus = [0i64; 12];
-    split::windowed_block(72, &rise, &fall, x, &mut block);
+    windowed_72(left, right, x, &mut block);
     split_72(&block, &mut a, &mut plus, &mut minus);
-    split::short_block(72, x, &block, &a, &plus, &minus, out);
+    split::short_block(72, left, right, x, &block, &a, &plus, &minus, out);
 }
 
-// The coefficients of a block, for `recording`: each length lends its own tables.
-pub fn analyse(n: usize, x: &[i16], out: &mut [i32])
+// The coefficients of a block by the short route, with joints of the shapes left and right: each length lends its own tables.
+pub fn analyse(n: usize, left: u32, right: u32, x: &[i16], out: &mut [i32])
     requires { ⌜ T (offered n) × (length (now x) ≡ n) × (length (now out) ≡ n / 2) ⌝ }
-    ensures { λ _. ⌜ now (out .exit) ≡ short n (y n (rising n) (falling n) (now (x .entry))) ⌝ }
+    ensures { λ _. ⌜ now (out .exit) ≡ short n (y n (rising left n) (falling right n) (now (x .entry))) ⌝ }
 {
     if n == 12 {
-        short_12(x, out);
+        short_12(left, right, x, out);
         return;
     }
     if n == 24 {
-        short_24(x, out);
+        short_24(left, right, x, out);
         return;
     }
     if n == 36 {
-        short_36(x, out);
+        short_36(left, right, x, out);
         return;
     }
-    short_72(x, out);
+    short_72(left, right, x, out);
 }

@@ -12,26 +12,30 @@ use analysis::Route;
 #[no_mangle]
 pub extern "C" fn dapplescree_analyse_direct(
     n: usize,
+    left: u32,
+    right: u32,
     samples: &[i16],
     coefficients: &mut [i32],
 ) -> u32
-    ensures { λ r. ⌜ r ≡ analyseCode Direct n (now (samples .entry)) (now (coefficients .entry)) ⌝ }
-    ensures { λ _. ⌜ now (coefficients .exit) ≡ analyseOut Direct n (now (samples .entry)) (now (coefficients .entry)) ⌝ }
+    ensures { λ r. ⌜ r ≡ analyseCode Direct n left right (now (samples .entry)) (now (coefficients .entry)) ⌝ }
+    ensures { λ _. ⌜ now (coefficients .exit) ≡ analyseOut Direct n left right (now (samples .entry)) (now (coefficients .entry)) ⌝ }
 {
-    filter_bank::analyse(Route::Direct, n, samples, coefficients)
+    filter_bank::analyse(Route::Direct, n, left, right, samples, coefficients)
 }
 
 // One block by the short route.
 #[no_mangle]
 pub extern "C" fn dapplescree_analyse_short(
     n: usize,
+    left: u32,
+    right: u32,
     samples: &[i16],
     coefficients: &mut [i32],
 ) -> u32
-    ensures { λ r. ⌜ r ≡ analyseCode Short n (now (samples .entry)) (now (coefficients .entry)) ⌝ }
-    ensures { λ _. ⌜ now (coefficients .exit) ≡ analyseOut Short n (now (samples .entry)) (now (coefficients .entry)) ⌝ }
+    ensures { λ r. ⌜ r ≡ analyseCode Short n left right (now (samples .entry)) (now (coefficients .entry)) ⌝ }
+    ensures { λ _. ⌜ now (coefficients .exit) ≡ analyseOut Short n left right (now (samples .entry)) (now (coefficients .entry)) ⌝ }
 {
-    filter_bank::analyse(Route::Short, n, samples, coefficients)
+    filter_bank::analyse(Route::Short, n, left, right, samples, coefficients)
 }
 
 // A fresh stream, in a state: `filter_bank::fresh_in_place`.
@@ -48,14 +52,16 @@ pub extern "C" fn dapplescree_stream_fresh(n: usize, state: &mut [i64]) -> u32
 pub extern "C" fn dapplescree_stream_step(
     state: &mut [i64],
     number: u32,
+    left: u32,
+    right: u32,
     coefficients: &[i32],
     hop: &mut [i16],
 ) -> u32
-    ensures { λ r. ⌜ r ≡ stepCode (now (state .entry)) number (now (coefficients .entry)) (now (hop .entry)) ⌝ }
-    ensures { λ _. ⌜ now (state .exit) ≡ stepState (now (state .entry)) number (now (coefficients .entry)) (now (hop .entry)) ⌝ }
-    ensures { λ _. ⌜ now (hop .exit) ≡ stepOut (now (state .entry)) number (now (coefficients .entry)) (now (hop .entry)) ⌝ }
+    ensures { λ r. ⌜ r ≡ stepCode (now (state .entry)) number left right (now (coefficients .entry)) (now (hop .entry)) ⌝ }
+    ensures { λ _. ⌜ now (state .exit) ≡ stepState (now (state .entry)) number left right (now (coefficients .entry)) (now (hop .entry)) ⌝ }
+    ensures { λ _. ⌜ now (hop .exit) ≡ stepOut (now (state .entry)) number left right (now (coefficients .entry)) (now (hop .entry)) ⌝ }
 {
-    filter_bank::step_in_place(state, number, coefficients, hop)
+    filter_bank::step_in_place(state, number, left, right, coefficients, hop)
 }
 
 // A whole recording by the direct route: `filter_bank::analyse_recording`.

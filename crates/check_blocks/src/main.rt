@@ -1,5 +1,5 @@
-// Blocks through the public analysis, by both routes, compared with what vectors/blocks.py makes from the definitions.
-ghost use Prim.Native.Nat.{_≤_, _<_, _/_, _^_};
+// Blocks through the public analysis, by both routes and between joints of every shape, compared with what vectors/blocks.py makes from the definitions.
+ghost use Prim.Native.Nat.{_≤_, _<_, _*_, _/_, _^_};
 ghost use lib.Dec.{T};
 ghost use Rattle.cosine.specs.Kernels.{tabled};
 use analysis::Route;
@@ -8,15 +8,17 @@ use analysis::Route;
 const ROOM: usize = 220;
 
 // The most coefficients that are shown one by one.
-const SHOWN: usize = 80;
+const SHOWN: usize = 40;
 
 // The ends of a sample's range.
 const MOST: i16 = 32767;
 
 const LEAST: i16 = -32768;
 
-// Random blocks of a length.
-const BLOCKS: usize = 40;
+// The shapes of a joint.
+const LONG: u32 = 0;
+
+const SHORT: u32 = 1;
 
 fn show_route(route: Route) {
     match route {
@@ -25,36 +27,38 @@ fn show_route(route: Route) {
     }
 }
 
-// One call: its route, N and the number of samples, and what is there afterwards.
-fn told(route: Route, n: usize, x: &[i16], out: &mut [i32]) {
+// One call: its route, N, the shapes of the block's joints and the number of samples, and what is there afterwards.
+fn told(route: Route, n: usize, left: u32, right: u32, x: &[i16], out: &mut [i32]) {
     show_route(route);
     report::count(n);
+    report::count(left as usize);
+    report::count(right as usize);
     report::count(x.len());
-    let code = filter_bank::analyse(route, n, x, out);
+    let code = filter_bank::analyse(route, n, left, right, x, out);
     report::count(code as usize);
     report::coefficients(out, SHOWN);
 }
 
 // A call on the first l entries of x and a buffer of m marks.
-fn offer(route: Route, n: usize, x: [i16; ROOM], l: usize, m: usize)
+fn offer(route: Route, n: usize, left: u32, right: u32, x: [i16; ROOM], l: usize, m: usize)
     requires { ⌜ (l ≤ 220) × (m ≤ 220) ⌝ }
 {
     let mut out = [12345; ROOM];
-    told(route, n, &x[..l], &mut out[..m]);
+    told(route, n, left, right, &x[..l], &mut out[..m]);
 }
 
-fn both(n: usize, x: [i16; ROOM], l: usize, m: usize)
+fn both(n: usize, left: u32, right: u32, x: [i16; ROOM], l: usize, m: usize)
     requires { ⌜ (l ≤ 220) × (m ≤ 220) ⌝ }
 {
-    offer(Route::Direct, n, x, l, m);
-    offer(Route::Short, n, x, l, m);
+    offer(Route::Direct, n, left, right, x, l, m);
+    offer(Route::Short, n, left, right, x, l, m);
 }
 
 // A block of the stated lengths.
-fn block(n: usize, x: [i16; ROOM])
+fn block(n: usize, left: u32, right: u32, x: [i16; ROOM])
     requires { ⌜ n ≤ 216 ⌝ }
 {
-    both(n, x, n, n / 2);
+    both(n, left, right, x, n, n / 2);
 }
 
 // Noise of a seed and a span.
@@ -122,99 +126,198 @@ fn driven(n: usize, k: usize, low: i16, high: i16) -> [i16; ROOM]
 }
 
 // Blocks of two values: each alone, in turn either way, and one of them at every place.
-fn steadies(n: usize, low: i16, high: i16)
+fn steadies(n: usize, left: u32, right: u32, low: i16, high: i16)
     requires { ⌜ n ≤ 216 ⌝ }
 {
-    block(n, steady(low));
-    block(n, steady(high));
-    block(n, alternating(low, high));
-    block(n, alternating(high, low));
+    block(n, left, right, steady(low));
+    block(n, left, right, steady(high));
+    block(n, left, right, alternating(low, high));
+    block(n, left, right, alternating(high, low));
 }
 
 fn impulses(n: usize, low: i16, high: i16)
     requires { ⌜ n ≤ 216 ⌝ }
 {
     for i in 0..n {
-        block(n, impulse(i, low));
-        block(n, impulse(i, high));
+        block(n, LONG, LONG, impulse(i, low));
+        block(n, LONG, LONG, impulse(i, high));
     }
 }
 
 // Every coefficient driven as far as it goes, either way.
-fn drives(n: usize, low: i16, high: i16)
+fn drives(n: usize, left: u32, right: u32, low: i16, high: i16)
     requires { ⌜ T (tabled n) × (n ≤ 216) ⌝ }
 {
     for k in 0..n / 2 {
-        block(n, driven(n, k, low, high));
-        block(n, driven(n, k, high, low));
+        block(n, left, right, driven(n, k, low, high));
+        block(n, left, right, driven(n, k, high, low));
     }
 }
 
-fn noises(n: usize)
-    requires { ⌜ n ≤ 216 ⌝ }
+fn noises(n: usize, left: u32, right: u32, count: usize)
+    requires { ⌜ (n ≤ 216) × (count ≤ 40) ⌝ }
 {
-    for b in 0..BLOCKS {
-        block(n, noise((100 * n + b) as u64, span(b)));
+    for b in 0..count {
+        block(n, left, right, noise((100 * n + b) as u64, span(b)));
     }
 }
 
-// The loudest blocks and the quiet ones.
+// The loudest blocks and the quiet ones, between long joints.
 fn two_values(n: usize, low: i16, high: i16)
     requires { ⌜ T (tabled n) × (n ≤ 216) ⌝ }
 {
-    steadies(n, low, high);
+    steadies(n, LONG, LONG, low, high);
     impulses(n, low, high);
-    drives(n, low, high);
+    drives(n, LONG, LONG, low, high);
+}
+
+// The loudest samples at place i of a block, and at its mirror.
+fn mirrored(n: usize, left: u32, right: u32, i: usize)
+    requires { ⌜ (n ≤ 216) × (i < n) ⌝ }
+{
+    block(n, left, right, impulse(i, LEAST));
+    block(n, left, right, impulse(i, MOST));
+    block(n, left, right, impulse(n - 1 - i, LEAST));
+    block(n, left, right, impulse(n - 1 - i, MOST));
+}
+
+// The first and the last place of each third of a half, which a short joint has in zeros, in its rise and in ones. A third has r places.
+fn thirds(n: usize, r: usize, left: u32, right: u32)
+    requires { ⌜ (n ≤ 216) × (1 ≤ r) × (6 * r ≤ n) ⌝ }
+{
+    mirrored(n, left, right, 0);
+    mirrored(n, left, right, r - 1);
+    mirrored(n, left, right, r);
+    mirrored(n, left, right, 2 * r - 1);
+    mirrored(n, left, right, 2 * r);
+    mirrored(n, left, right, 3 * r - 1);
+}
+
+// Blocks between joints of which one or both are short.
+fn shaped(n: usize, r: usize, left: u32, right: u32)
+    requires { ⌜ T (tabled n) × (n ≤ 216) × (1 ≤ r) × (6 * r ≤ n) ⌝ }
+{
+    steadies(n, left, right, LEAST, MOST);
+    thirds(n, r, left, right);
+    drives(n, left, right, LEAST, MOST);
+    noises(n, left, right, 8);
+}
+
+// A good block between joints that have no such shape.
+fn misshapen(n: usize, left: u32, right: u32)
+    requires { ⌜ n ≤ 216 ⌝ }
+{
+    block(n, left, right, noise(9, 32768));
+}
+
+// Shapes above 1, and such that are 0 or 1 in 8, 16 or 31 bits.
+fn wrong_shapes(n: usize)
+    requires { ⌜ n ≤ 216 ⌝ }
+{
+    misshapen(n, 2, 0);
+    misshapen(n, 0, 2);
+    misshapen(n, 2, 2);
+    misshapen(n, 2, 1);
+    misshapen(n, 1, 2);
+    misshapen(n, 256, 0);
+    misshapen(n, 0, 257);
+    misshapen(n, 65536, 1);
+    misshapen(n, 1, 65537);
+    misshapen(n, 2147483648, 0);
+    misshapen(n, 0, 2147483649);
+    misshapen(n, 4294967295, 4294967295);
 }
 
 // Buffers that are longer, shorter, empty, or one in place of the other.
-fn wrong_lengths(n: usize, m: usize)
+fn lengths_beside(n: usize, m: usize, left: u32, right: u32)
     requires { ⌜ (1 ≤ n) × (n ≤ 216) × (1 ≤ m) × (m ≤ 108) ⌝ }
 {
     let x = noise(n as u64, 32768);
-    both(n, x, n - 1, m);
-    both(n, x, n + 1, m);
-    both(n, x, n, m - 1);
-    both(n, x, n, m + 1);
-    both(n, x, n - 1, m - 1);
-    both(n, x, n + 1, m + 1);
-    both(n, x, 0, 0);
-    both(n, x, 0, m);
-    both(n, x, n, 0);
-    both(n, x, m, n);
-    both(n, x, m, m);
-    both(n, x, n, n);
+    both(n, left, right, x, n - 1, m);
+    both(n, left, right, x, n + 1, m);
+    both(n, left, right, x, n, m - 1);
+    both(n, left, right, x, n, m + 1);
+    both(n, left, right, x, n - 1, m - 1);
+    both(n, left, right, x, n + 1, m + 1);
+}
+
+fn exchanged_lengths(n: usize, m: usize, left: u32, right: u32)
+    requires { ⌜ (n ≤ 216) × (m ≤ 108) ⌝ }
+{
+    let x = noise(n as u64, 32768);
+    both(n, left, right, x, 0, 0);
+    both(n, left, right, x, 0, m);
+    both(n, left, right, x, n, 0);
+    both(n, left, right, x, m, n);
+    both(n, left, right, x, m, m);
+    both(n, left, right, x, n, n);
+}
+
+fn wrong_lengths(n: usize, m: usize, left: u32, right: u32)
+    requires { ⌜ (1 ≤ n) × (n ≤ 216) × (1 ≤ m) × (m ≤ 108) ⌝ }
+{
+    lengths_beside(n, m, left, right);
+    exchanged_lengths(n, m, left, right);
 }
 
 // The buffers of every length under the name of one.
 fn named(n: usize) {
     let x = noise(5, 32768);
-    both(n, x, 12, 6);
-    both(n, x, 24, 12);
-    both(n, x, 36, 18);
-    both(n, x, 72, 36);
-    both(n, x, 108, 54);
-    both(n, x, 216, 108);
+    both(n, LONG, LONG, x, 12, 6);
+    both(n, LONG, LONG, x, 24, 12);
+    both(n, LONG, LONG, x, 36, 18);
+    both(n, LONG, LONG, x, 72, 36);
+    both(n, LONG, LONG, x, 108, 54);
+    both(n, LONG, LONG, x, 216, 108);
 }
 
-// A length that is not tabled: with buffers of every length, with its own or others, and with none.
+// A length that is not tabled: with buffers of every length, with its own or others, with none, and with shapes above 1.
 fn untabled(n: usize, l: usize, m: usize)
     requires { ⌜ (l ≤ 220) × (m ≤ 220) ⌝ }
 {
     named(n);
-    both(n, noise(6, 32768), l, m);
-    both(n, noise(7, 32768), 0, 0);
-    both(n, noise(8, 32768), 80, 80);
+    both(n, LONG, LONG, noise(6, 32768), l, m);
+    both(n, LONG, LONG, noise(7, 32768), 0, 0);
+    both(n, LONG, LONG, noise(8, 32768), 80, 80);
+    both(n, 2, LONG, noise(6, 32768), l, m);
+    both(n, SHORT, 2, noise(7, 32768), 0, 0);
 }
 
-fn offered(n: usize, m: usize)
-    requires { ⌜ T (tabled n) × (1 ≤ n) × (n ≤ 216) × (1 ≤ m) × (m ≤ 108) ⌝ }
+// Blocks between long joints.
+fn long_joints(n: usize)
+    requires { ⌜ T (tabled n) × (n ≤ 216) ⌝ }
 {
-    block(n, steady(0));
+    block(n, LONG, LONG, steady(0));
     two_values(n, LEAST, MOST);
     two_values(n, -1, 1);
-    noises(n);
-    wrong_lengths(n, m);
+    noises(n, LONG, LONG, 40);
+}
+
+fn short_joints(n: usize, r: usize)
+    requires { ⌜ T (tabled n) × (n ≤ 216) × (1 ≤ r) × (6 * r ≤ n) ⌝ }
+{
+    shaped(n, r, LONG, SHORT);
+    shaped(n, r, SHORT, LONG);
+    shaped(n, r, SHORT, SHORT);
+}
+
+// Wrong shapes, and wrong lengths beside shapes of either kind.
+fn refused(n: usize, m: usize)
+    requires { ⌜ (1 ≤ n) × (n ≤ 216) × (1 ≤ m) × (m ≤ 108) ⌝ }
+{
+    wrong_shapes(n);
+    wrong_lengths(n, m, LONG, LONG);
+    wrong_lengths(n, m, SHORT, SHORT);
+    wrong_lengths(n, m, 2, LONG);
+    wrong_lengths(n, m, SHORT, 2);
+}
+
+fn offered(n: usize, m: usize, r: usize)
+    requires { ⌜ T (tabled n) × (1 ≤ n) × (n ≤ 216) × (1 ≤ m) × (m ≤ 108) × (1 ≤ r) × (6 * r ≤ n) ⌝ }
+{
+    long_joints(n);
+    short_joints(n, r);
+    refused(n, m);
     named(n);
 }
 
@@ -224,7 +327,7 @@ fn pair(n: usize, i: usize, v: i16, j: usize, w: i16)
 {
     let mut x = impulse(i, v);
     x[j] = w;
-    block(n, x);
+    block(n, LONG, LONG, x);
 }
 
 // Blocks in which y, X, A, rB, rC, B + D and B - D meet an exact half below zero, a line for each, as vectors/halves.py finds them.
@@ -285,12 +388,12 @@ fn halves() {
 }
 
 fn main() {
-    offered(12, 6);
-    offered(24, 12);
-    offered(36, 18);
-    offered(72, 36);
-    offered(108, 54);
-    offered(216, 108);
+    offered(12, 6, 2);
+    offered(24, 12, 4);
+    offered(36, 18, 6);
+    offered(72, 36, 12);
+    offered(108, 54, 18);
+    offered(216, 108, 36);
     untabled(0, 1, 1);
     untabled(11, 11, 5);
     untabled(13, 13, 6);

@@ -1,7 +1,7 @@
--- The limits of document 01, 'When the bank declines', and of document 02, P1, as tests: definitions.
+-- The limits of document 01, 'When the bank declines', and of document 02, P1 and P7, as tests: definitions.
 use mathlib.Core.Bool.{Bool, cond, false}
 use mathlib.Core.List.{List}
-use Prim.Native.Nat.{ℕ, _*_, _^_}
+use Prim.Native.Nat.{ℕ, _+_, _-_, _*_, _^_}
 use lib.Dec.{leb}
 use lib.IntN.{ℤ, pos, negℤ}
 use lib.Signed.{leZ}
@@ -10,6 +10,10 @@ use Rattle.arithmetic.specs.Lists.{at, all}
 -- z lies within plus or minus b, the ends included
 unfoldable pub within : ℤ → ℕ → Bool
 within z b = cond (leZ (negℤ (pos b)) z) (leZ z (pos b)) false
+
+-- a test of the numbers from .. to - 1
+unfoldable pub between : ℕ → ℕ → (ℕ → Bool) → Bool
+between from to p = all (to - from) (λ i. p (from + i))
 
 -- the limit of a coefficient, and of a tail entry of a stream with hops of M samples
 abbrev pub coefficientLimit : ℕ
@@ -28,3 +32,7 @@ hopLimit = 4095
 
 unfoldable pub counted : ℕ → Bool
 counted H = cond (leb 1 H) (leb H hopLimit) false
+
+-- a joint's shape is 0 or 1 (document 02, P7): both of a block's
+unfoldable pub areShapes : ℕ → ℕ → Bool
+areShapes left right = cond (leb left 1) (leb right 1) false

@@ -6,7 +6,7 @@ use lib.IntN.{ℤ, pos, negsuc, negℤ, _*ℤ_}
 use Rattle.arithmetic.specs.Rounding.{rnd}
 use Rattle.arithmetic.specs.Sums.{sum}
 
--- the parts that a turn is cut in, and the parts of it that have names: 432, 216, and 288, 144, 72 beside the angle s of the short route
+-- the parts that a turn is cut in, and the parts of it that have names: 432, 216, 108 in the short joint's rise, and 288, 144, 72 beside the angle s of the short route
 abbrev pub turn : ℕ
 turn = 864
 
@@ -21,6 +21,9 @@ third = turn / 3
 
 abbrev pub sixth : ℕ
 sixth = turn / 6
+
+abbrev pub eighth : ℕ
+eighth = turn / 8
 
 abbrev pub twelfth : ℕ
 twelfth = turn / 12

@@ -1,14 +1,15 @@
 -- Laws of the window and the kernels, with N as a parameter over `Part`: range, symmetry, and the fold of source 003, equation (41).
-use mathlib.Core.Path.{_≡_, ap, _∙_}
+use mathlib.Core.Path.{_≡_, refl, ap, _∙_}
+use mathlib.Core.Bool.{Bool, true, false, cond}
 use Prim.Native.Nat.{ℕ, _+_, _-_, _*_, _/_, _^_, _≤_, _<_}
-use native.Mathlib.Nat.{mul-le-mul-left}
+use native.Mathlib.Nat.{mul-le-mul-left, div-mul-le-self}
 use native.Mathlib.Omega.{arith}
-use native.Mathlib.Decide.{decLt}
+use lib.Dec.{eqb, ltb, ltb→lt}
 use lib.IntN.{pos, negℤ, natAbs, _-ℤ_, _*ℤ_}
-use lib.Signed.{_≤ℤ_}
+use lib.Signed.{_≤ℤ_, leZ-yes}
 use Rattle.arithmetic.specs.IntegerLaws.{posints}
-use Rattle.cosine.specs.Cosine.{turn, half-turn, quarter, firstQuarter, C}
-use Rattle.cosine.specs.Kernels.{d, W, rising, falling, K, F, L}
+use Rattle.cosine.specs.Cosine.{turn, half-turn, quarter, eighth, firstQuarter, C}
+use Rattle.cosine.specs.Kernels.{d, W, shortRise, rising, falling, K, F, L}
 use Rattle.cosine.specs.TableLaws.{low}
 use Rattle.cosine.specs.CosineLaws.{C-mirror, C-less, C-more, C-same, C-low, C-size}
 use Rattle.cosine.specs.LengthLaws.{Part}
@@ -17,6 +18,31 @@ use Rattle.cosine.specs.LengthLaws.{Part}
 pub W-size : (N n : ℕ) → natAbs (W N n) ≤ 2 ^ 26
 unfolding W
 W-size N n = C-size (pos (d N) *ℤ (pos N -ℤ pos (2 * n + 1)))
+
+short-size : (N n : ℕ) → natAbs (shortRise N n) ≤ 2 ^ 26
+unfolding shortRise
+short-size N n = go (ltb n (N / 6)) (ltb n (2 * (N / 6)))
+  where
+    go : (zero one : Bool) → natAbs (cond zero (pos 0) (cond one (C (pos quarter -ℤ pos (eighth / (N / 6) * (2 * (n - N / 6) + 1)))) (pos (2 ^ 26)))) ≤ 2 ^ 26
+    go true one = omega arith
+    go false true = C-size (pos quarter -ℤ pos (eighth / (N / 6) * (2 * (n - N / 6) + 1)))
+    go false false = omega arith
+
+pub rising-size : (shape N n : ℕ) → natAbs (rising shape N n) ≤ 2 ^ 26
+unfolding rising
+rising-size shape N n = go (eqb shape 0)
+  where
+    go : (long : Bool) → natAbs (cond long (W N n) (shortRise N n)) ≤ 2 ^ 26
+    go true = W-size N n
+    go false = short-size N n
+
+pub falling-size : (shape N n : ℕ) → natAbs (falling shape N n) ≤ 2 ^ 26
+unfolding falling
+falling-size shape N n = go (eqb shape 0)
+  where
+    go : (long : Bool) → natAbs (cond long (W N (N / 2 + n)) (shortRise N (N / 2 - 1 - n))) ≤ 2 ^ 26
+    go true = W-size N (N / 2 + n)
+    go false = short-size N (N / 2 - 1 - n)
 
 pub K-size : (N n k : ℕ) → natAbs (K N n k) ≤ 2 ^ 26
 unfolding K
@@ -117,21 +143,52 @@ module _ (N : ℕ) (len : Part N) where
       turned : (d N a b : ℕ) → a + b ≡ N + N → pos d *ℤ (pos N -ℤ pos a) ≡ negℤ (pos d *ℤ (pos N -ℤ pos b))
       turned d N a b h = simp posints (omega (arith, ap (λ (x : ℕ). d * x) h))
 
-  -- the rising half is never negative, and the falling half is its mirror
-  pub rising-low : (n : ℕ) → n < N / 2 → pos 0 ≤ℤ rising N n
-  unfolding rising
-  rising-low n p = rw (W-first n p) (low (d N * (N - (2 * n + 1))) (part≤ (N - (2 * n + 1)) (omega arith)))
+  W-rises : (n : ℕ) → n < N / 2 → pos 0 ≤ℤ W N n
+  W-rises n p = rw (W-first n p) (low (d N * (N - (2 * n + 1))) (part≤ (N - (2 * n + 1)) (omega arith)))
 
-  pub falling-mirror : (n : ℕ) → n < N / 2 → falling N n ≡ rising N (N / 2 - 1 - n)
-  unfolding falling rising
-  falling-mirror n p =
-      let e : N - 1 - (N / 2 - 1 - n) ≡ N / 2 + n = omega (arith, len .four) in
-      rw e at (W-symmetric (N / 2 - 1 - n) (omega arith))
-
-  pub W-low : (n : ℕ) → n < N → pos 0 ≤ℤ W N n
-  unfolding rising
-  W-low n p = go (decLt n (N / 2))
+  -- ---- the halves of a joint, of either shape
+  -- the sine rise lies in the first quarter
+  rise-low : (n : ℕ) → n < 2 * (N / 6) → pos 0 ≤ℤ C (pos quarter -ℤ pos (eighth / (N / 6) * (2 * (n - N / 6) + 1)))
+  rise-low n p =
+      let R = N / 6 in
+      let b = eighth / R * (2 * (n - R) + 1) in
+      let h : b ≤ quarter = omega (arith, mul-le-mul-left (eighth / R) (less R n p), div-mul-le-self eighth R) in
+      rw (arg b h) (rw (C-low (quarter - b) (omega arith)) (low (quarter - b) (omega arith)))
     where
-      go : Dec (n < N / 2) → pos 0 ≤ℤ W N n
-      go (yes q) = rising-low n q
-      go (no q) = rw (← (W-symmetric n p)) (rising-low (N - 1 - n) (omega (arith, len .four)))
+      less : (R n : ℕ) → n < 2 * R → 2 * (n - R) + 1 ≤ 2 * R
+      less R n p = omega arith
+
+      arg : (b : ℕ) → b ≤ quarter → pos quarter -ℤ pos b ≡ pos (quarter - b)
+      arg b h = simp posints (omega arith)
+
+  short-low : (n : ℕ) → n < N / 2 → pos 0 ≤ℤ shortRise N n
+  unfolding shortRise
+  short-low n p = go (ltb n (N / 6)) (ltb n (2 * (N / 6))) refl
+    where
+      go : (zero one : Bool) → ltb n (2 * (N / 6)) ≡ one →
+          pos 0 ≤ℤ cond zero (pos 0) (cond one (C (pos quarter -ℤ pos (eighth / (N / 6) * (2 * (n - N / 6) + 1)))) (pos (2 ^ 26)))
+      go true one e = leZ-yes tt
+      go false true e = rise-low n (ltb→lt n (2 * (N / 6)) (rw e tt))
+      go false false e = leZ-yes tt
+
+  pub rising-low : (shape n : ℕ) → n < N / 2 → pos 0 ≤ℤ rising shape N n
+  unfolding rising
+  rising-low shape n p = go (eqb shape 0)
+    where
+      go : (long : Bool) → pos 0 ≤ℤ cond long (W N n) (shortRise N n)
+      go true = W-rises n p
+      go false = short-low n p
+
+  -- the falling half is the mirror of the rising one
+  pub falling-mirror : (shape n : ℕ) → n < N / 2 → falling shape N n ≡ rising shape N (N / 2 - 1 - n)
+  unfolding falling rising
+  falling-mirror shape n p = go (eqb shape 0)
+    where
+      go : (long : Bool) → cond long (W N (N / 2 + n)) (shortRise N (N / 2 - 1 - n)) ≡ cond long (W N (N / 2 - 1 - n)) (shortRise N (N / 2 - 1 - n))
+      go true =
+          let e : N - 1 - (N / 2 - 1 - n) ≡ N / 2 + n = omega (arith, len .four) in
+          rw e at (W-symmetric (N / 2 - 1 - n) (omega arith))
+      go false = refl
+
+  pub falling-low : (shape n : ℕ) → n < N / 2 → pos 0 ≤ℤ falling shape N n
+  falling-low shape n p = rw (falling-mirror shape n p) (rising-low shape (N / 2 - 1 - n) (omega arith))

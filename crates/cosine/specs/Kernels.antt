@@ -1,12 +1,12 @@
 -- The block lengths, the window W and the kernels K and L: definitions. Document 01, 'What the recorder holds',
--- 'Rounding and the cosine table' and 'Short route', with P4's lengths and parts of a turn.
+-- 'Rounding and the cosine table' and 'Short route', with P4's lengths and parts of a turn, and the joints of document 02, P7.
 use mathlib.Core.Bool.{Bool, cond, not}
 use mathlib.Core.List.{List, [], _∷_}
-use Prim.Native.Nat.{ℕ, _+_, _*_, _/_, _%_}
-use lib.Dec.{eqb}
+use Prim.Native.Nat.{ℕ, _+_, _-_, _*_, _/_, _%_, _^_}
+use lib.Dec.{eqb, ltb}
 use lib.IntN.{ℤ, pos, negℤ, _+ℤ_, _-ℤ_, _*ℤ_}
 use Rattle.arithmetic.specs.Lists.{every}
-use Rattle.cosine.specs.Cosine.{quarter, third, sixth, twelfth, C}
+use Rattle.cosine.specs.Cosine.{quarter, third, sixth, eighth, twelfth, C}
 
 -- N is the block length: 12, 24, 36, 72, 108 or 216 (P4). M = N/2 is a hop, document 01's term
 unfoldable pub lengths : List ℕ
@@ -31,12 +31,19 @@ d N = quarter / N
 unfoldable pub W : ℕ → ℕ → ℤ
 W N n = C (pos (d N) *ℤ (pos N -ℤ pos (2 * n + 1)))
 
--- its rising half, and its falling half: W(M) .. W(N-1)
-unfoldable pub rising : ℕ → ℕ → ℤ
-rising N n = W N n
+-- the short rising half (P7): M/3 zeros, then a sine rise of R = M/3 entries, C(216 - (108 / R) × (2j + 1)), then M/3 entries of 67,108,864
+unfoldable pub shortRise : ℕ → ℕ → ℤ
+shortRise N n =
+    let R = N / 6 in
+    cond (ltb n R) (pos 0) (cond (ltb n (2 * R)) (C (pos quarter -ℤ pos (eighth / R * (2 * (n - R) + 1)))) (pos (2 ^ 26)))
 
-unfoldable pub falling : ℕ → ℕ → ℤ
-falling N n = W N (N / 2 + n)
+-- a joint is where two blocks meet. Its shape is a number: 0 is long, the sine window's; 1 is short (P7). Its rising half ..
+unfoldable pub rising : ℕ → ℕ → ℕ → ℤ
+rising shape N n = cond (eqb shape 0) (W N n) (shortRise N n)
+
+-- .. and its falling half: W(M) .. W(N-1), or the mirror of the short rising half
+unfoldable pub falling : ℕ → ℕ → ℕ → ℤ
+falling shape N n = cond (eqb shape 0) (W N (N / 2 + n)) (shortRise N (N / 2 - 1 - n))
 
 -- the kernel K(n,k) = C(d × (2n + 1 + N/2) × (2k + 1)), n from 0 to N - 1, k from 0 to M - 1
 unfoldable pub K : ℕ → ℕ → ℕ → ℤ

@@ -1,18 +1,18 @@
--- Laws of a joint: what the rising half of a window must satisfy for the sound to come back, and that the sine window's does.
+-- Laws of a joint: what its rising half must satisfy for the sound to come back, and that the long one's and the short one's do.
 use mathlib.Core.Path.{_≡_}
-use mathlib.Core.Bool.{Bool, false, cond}
+use mathlib.Core.Bool.{Bool, true, false, cond}
 use Prim.Native.Nat.{ℕ, _+_, _-_, _*_, _/_, _^_, _≤_, _<_}
-use lib.Dec.{T, leb, leb→le}
+use lib.Dec.{T, eqb, ltb, leb, leb→le}
 use lib.IntN.{ℤ, pos, natAbs, _+ℤ_, _-ℤ_, _*ℤ_}
 use lib.Signed.{_≤ℤ_, leZ, leZ-yes}
 use Rattle.arithmetic.specs.Lists.{all, every}
 use Rattle.arithmetic.specs.TestLaws.{all-at, both-left, both-right}
-use Rattle.cosine.specs.Cosine.{reduced, toHalf, toTurn, continued}
-use Rattle.cosine.specs.Kernels.{lengths, tabled, d, W, rising}
+use Rattle.cosine.specs.Cosine.{quarter, eighth, reduced, toHalf, toTurn, continued}
+use Rattle.cosine.specs.Kernels.{lengths, tabled, d, W, shortRise, rising}
 use Rattle.cosine.specs.TableLaws.{numbers}
 use Rattle.cosine.specs.CosineLaws.{tableC, C-table}
 use Rattle.cosine.specs.LengthLaws.{of-tabled, part-of}
-use Rattle.cosine.specs.KernelLaws.{W-size, rising-low}
+use Rattle.cosine.specs.KernelLaws.{rising-size, rising-low}
 
 -- the rising half r of a joint between hops of M samples. The falling half is its mirror, r(M-1-n).
 -- In units of 2^26 the squares of the two make 1, up to 2^-25, and the two make at most 3/2
@@ -33,34 +33,37 @@ right-is a b t =
     let off = natAbs (a *ℤ a +ℤ b *ℤ b -ℤ pos (2 ^ 52)) in
     (leZ-yes (both-left f (leb off (2 ^ 27)) t), leb→le off (2 ^ 27) (both-right f (leb off (2 ^ 27)) t))
 
--- W read from the table
-tableW : ℕ → ℕ → ℤ
-tableW N n = tableC (pos (d N) *ℤ (pos N -ℤ pos (2 * n + 1)))
+-- the rising half of a joint, long or short, read from the table
+unfoldable pub tableRise : Bool → ℕ → ℕ → ℤ
+tableRise long N n =
+    let R = N / 6 in
+    cond long (tableC (pos (d N) *ℤ (pos N -ℤ pos (2 * n + 1))))
+    (cond (ltb n R) (pos 0) (cond (ltb n (2 * R)) (tableC (pos quarter -ℤ pos (eighth / R * (2 * (n - R) + 1)))) (pos (2 ^ 26))))
 
-W-table : (N n : ℕ) → rising N n ≡ tableW N n
-unfolding rising W tableW
-W-table N n = C-table (pos (d N) *ℤ (pos N -ℤ pos (2 * n + 1)))
+pub rise-table : (shape N n : ℕ) → rising shape N n ≡ tableRise (eqb shape 0) N n
+unfolding rising W shortRise tableRise
+rise-table shape N n = rw (C-table (pos (d N) *ℤ (pos N -ℤ pos (2 * n + 1))), C-table (pos quarter -ℤ pos (eighth / (N / 6) * (2 * (n - N / 6) + 1))))
 
-right-at : ℕ → Bool
-right-at N = all (N / 2) (λ n. right (tableW N n) (tableW N (N / 2 - 1 - n)))
+right-at : Bool → ℕ → Bool
+right-at long N = all (N / 2) (λ n. right (tableRise long N n) (tableRise long N (N / 2 - 1 - n)))
 
-test : T (every right-at lengths)
-unfolding every lengths right-at all right tableW tableC continued toTurn toHalf reduced numbers
-test = tt
+test : (long : Bool) → T (every (right-at long) lengths)
+unfolding every lengths right-at all right tableRise tableC continued toTurn toHalf reduced numbers
+test true = tt
+test false = tt
 
--- the sine window's rising half
-pub sine-joint : (N : ℕ) → T (tabled N) → Joint (N / 2) (rising N)
-sine-joint N t = record {
-  low = rising-low N (part-of N t);
-  size = λ n p. small n;
-  both = λ n p. rw (W-table N n, W-table N (N / 2 - 1 - n)) (tested n p .0);
-  power = λ n p. rw (W-table N n, W-table N (N / 2 - 1 - n)) (tested n p .1);
+-- the rising half of a joint of either shape
+pub joint : (shape N : ℕ) → T (tabled N) → Joint (N / 2) (rising shape N)
+joint shape N t = record {
+  low = rising-low N (part-of N t) shape;
+  size = λ n p. rising-size shape N n;
+  both = λ n p. rw (rise-table shape N n, rise-table shape N (N / 2 - 1 - n)) (tested n p .0);
+  power = λ n p. rw (rise-table shape N n, rise-table shape N (N / 2 - 1 - n)) (tested n p .1);
 }
   where
-    small : (n : ℕ) → natAbs (rising N n) ≤ 2 ^ 26
-    small n = unfold rising in W-size N n
-
     tested : (n : ℕ) → n < N / 2 →
-        ((tableW N n +ℤ tableW N (N / 2 - 1 - n)) ≤ℤ pos (3 * 2 ^ 25)) ×
-        (natAbs (tableW N n *ℤ tableW N n +ℤ tableW N (N / 2 - 1 - n) *ℤ tableW N (N / 2 - 1 - n) -ℤ pos (2 ^ 52)) ≤ 2 ^ 27)
-    tested n p = right-is (tableW N n) (tableW N (N / 2 - 1 - n)) (unfold right-at in all-at (N / 2) (λ n. right (tableW N n) (tableW N (N / 2 - 1 - n))) (of-tabled right-at test N t) n p)
+        ((tableRise (eqb shape 0) N n +ℤ tableRise (eqb shape 0) N (N / 2 - 1 - n)) ≤ℤ pos (3 * 2 ^ 25)) ×
+        (natAbs (tableRise (eqb shape 0) N n *ℤ tableRise (eqb shape 0) N n +ℤ tableRise (eqb shape 0) N (N / 2 - 1 - n) *ℤ tableRise (eqb shape 0) N (N / 2 - 1 - n) -ℤ pos (2 ^ 52)) ≤ 2 ^ 27)
+    tested n p =
+        let r : ℕ → ℤ = tableRise (eqb shape 0) N in
+        right-is (r n) (r (N / 2 - 1 - n)) (unfold right-at in all-at (N / 2) (λ n. right (r n) (r (N / 2 - 1 - n))) (of-tabled (right-at (eqb shape 0)) (test (eqb shape 0)) N t) n p)

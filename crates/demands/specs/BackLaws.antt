@@ -32,7 +32,7 @@ use Rattle.demands.specs.Recordings.{ByOneCall, BlockByBlock, Back, Shar
 
 module _ (N H Q : ℕ) (routes : ℕ → Route) (x X out : List ℤ) (rec : Recording N H x) (played : playedCode N H X out ≡ 0)
     (offers : (b : ℕ) → b ≤ H → T (offered (routes b) N))
-    (changed : (b : ℕ) → b ≤ H → (k : ℕ) → k < N / 2 → natAbs (at X (b * (N / 2) + k) -ℤ at (coefficients (routes b) N (block N x b)) k) ≤ Q) where
+    (changed : (b : ℕ) → b ≤ H → (k : ℕ) → k < N / 2 → natAbs (at X (b * (N / 2) + k) -ℤ at (coefficients (routes b) N 0 0 (block N x b)) k) ≤ Q) where
   facts : Played N H X out
   facts = played-facts N H X out played
 
@@ -59,7 +59,7 @@ module _ (N H Q : ℕ) (routes : ℕ → Route) (x X out : List ℤ) (rec : Reco
   unfolding part
   part-entry b p k q = part-at X (b * (N / 2)) (N / 2) (N / 2) (omega arith) (omega (arith, facts .long, within b (H + 1) (N / 2) (omega arith))) k q
 
-  brought : (b : ℕ) → b ≤ H → Brought N H Q routes x b (part N X b)
+  brought : (b : ℕ) → b ≤ H → Brought N H Q routes x b 0 0 (part N X b)
   brought b p = record {
     exists = p;
     offers = offers b p;
@@ -69,7 +69,7 @@ module _ (N H Q : ℕ) (routes : ℕ → Route) (x X out : List ℤ) (rec : Reco
 
   -- the samples of hop h: what the tail of block h and block h + 1 give
   left-at : (h n : ℕ) → h < H → n < N / 2 →
-      at left (h * (N / 2) + n) ≡ clamp (rnd (V′ N (rising N) (falling N) (part N X h) (N / 2 + n) +ℤ V′ N (rising N) (falling N) (part N X (suc h)) n) (N * 2 ^ 30))
+      at left (h * (N / 2) + n) ≡ clamp (rnd (V′ N (rising 0 N) (falling 0 N) (part N X h) (N / 2 + n) +ℤ V′ N (rising 0 N) (falling 0 N) (part N X (suc h)) n) (N * 2 ^ 30))
   unfolding synthesis
   left-at h n p q =
       ap (λ (l : List ℤ). at l (h * (N / 2) + n)) left-is
@@ -90,13 +90,13 @@ module _ (N H Q : ℕ) (routes : ℕ → Route) (x X out : List ℤ) (rec : Reco
     near-at : natAbs (at left i -ℤ at x i) ≤ (3 * provedChange Q (routes h) (routes (suc h)) + 36) / 64
     near-at =
         rw (ap (at left) (sym (lies .is)) ∙ left-at h n (lies .before) (lies .less), ap (at x) (sym (lies .is)))
-        (back-near N tab H x rec Q routes h (part N X h) (part N X (suc h)) (brought h (omega (arith, lies .before))) (brought (suc h) (lies .before)) n (lies .less))
+        (back-near N tab H x rec Q routes h 0 0 0 (part N X h) (part N X (suc h)) (brought h (omega (arith, lies .before))) (brought (suc h) (lies .before)) n (lies .less))
 
     same-at : Q ≤ 9 → routes h ≡ Direct → routes (suc h) ≡ Direct → at left i ≡ at x i
     same-at q e f =
         ap (at left) (sym (lies .is))
         ∙ left-at h n (lies .before) (lies .less)
-        ∙ back-same N tab H x rec Q routes h (part N X h) (part N X (suc h)) (brought h (omega (arith, lies .before))) (brought (suc h) (lies .before)) q e f n (lies .less)
+        ∙ back-same N tab H x rec Q routes h 0 0 0 (part N X h) (part N X (suc h)) (brought h (omega (arith, lies .before))) (brought (suc h) (lies .before)) q e f n (lies .less)
         ∙ ap (at x) (lies .is)
 
   pub back : Back N H Q routes x (playedOut N H X out) × SharperBack N H Q routes x (playedOut N H X out)
@@ -122,12 +122,12 @@ back-by-one-call N H Q route x X out samples given played =
     let rec : Recording N H x = record { hops = counted-some H (f .hops); long = f .long; sample = samples } in
     back N H Q (λ b. route) x X out rec played (λ b p. is-T (f .offers))
     (λ b p k q.
-    let e = joined-at (λ b. coefficients route N (block N x b)) (N / 2) (H + 1) (λ b p. coefficients-length route N (block N x b)) (pos 0) (H + 1) b k (omega arith) (omega arith) q in
+    let e = joined-at (λ b. coefficients route N 0 0 (block N x b)) (N / 2) (H + 1) (λ b p. coefficients-length route N 0 0 (block N x b)) (pos 0) (H + 1) b k (omega arith) (omega arith) q in
     rw (e) at (rw (← is) at (given .near (b * (N / 2) + k) (omega (arith, within b (H + 1) (N / 2) (omega arith))))))
 
 -- the blocks were analysed one by one, each by its own route
 pub back-block-by-block : (N H Q : ℕ) (routes : ℕ → Route) (x X out : List ℤ) → Recording N H x → BlockByBlock N H Q routes x X →
     playedCode N H X out ≡ 0 → Back N H Q routes x (playedOut N H X out) × SharperBack N H Q routes x (playedOut N H X out)
 back-block-by-block N H Q routes x X out rec given played =
-    back N H Q routes x X out rec played (λ b p. analysed-offered (routes b) N (block N x b) (given .buffer b) (given .taken b p))
-    (λ b p k q. rw (← (analyse-taken (routes b) N (block N x b) (given .buffer b) (given .taken b p) .1)) at (given .near b p k q))
+    back N H Q routes x X out rec played (λ b p. analysed-offered (routes b) N 0 0 (block N x b) (given .buffer b) (given .taken b p))
+    (λ b p k q. rw (← (analyse-taken (routes b) N 0 0 (block N x b) (given .buffer b) (given .taken b p) .1)) at (given .near b p k q))

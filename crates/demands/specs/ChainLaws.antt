@@ -15,29 +15,29 @@ use Rattle.demands.specs.ThereAndBackLaws.{every-list, there-and-back, w
 
 -- ---- one call is one step
 module _ (state : List ℤ) (a : length state ≡ entries) (o : Offer) where
-  next-stream : streamIn (stepState state (o .number) (o .brought) (o .buffer)) ≡ answered (streamIn state) o .answer .stream
+  next-stream : streamIn (stepState state (o .number) (o .left) (o .right) (o .brought) (o .buffer)) ≡ answered (streamIn state) o .answer .stream
   unfolding answered
-  next-stream = same-stream state (o .number) (o .brought) (o .buffer) a
+  next-stream = same-stream state (o .number) (o .left) (o .right) (o .brought) (o .buffer) a
 
   called-is : called state o ≡ answered (streamIn state) o
   unfolding called answered step
   called-is =
-      let e = same-stream state (o .number) (o .brought) (o .buffer) a in
-      rw (same-code state (o .number) (o .brought) (o .buffer) a, same-out state (o .number) (o .brought) (o .buffer) a, e)
+      let e = same-stream state (o .number) (o .left) (o .right) (o .brought) (o .buffer) a in
+      rw (same-code state (o .number) (o .left) (o .right) (o .brought) (o .buffer) a, same-out state (o .number) (o .left) (o .right) (o .brought) (o .buffer) a, e)
 
 -- ---- a list of calls is a list of steps
 pub calls-are : (offers : List Offer) (state : List ℤ) → length state ≡ entries → calls state offers ≡ run (streamIn state) offers
 unfolding calls run
 calls-are [] state a = refl
 calls-are (o ∷ offers) state a =
-    let ih = calls-are offers (stepState state (o .number) (o .brought) (o .buffer)) (same-long state (o .number) (o .brought) (o .buffer) a) in
+    let ih = calls-are offers (stepState state (o .number) (o .left) (o .right) (o .brought) (o .buffer)) (same-long state (o .number) (o .left) (o .right) (o .brought) (o .buffer) a) in
     rw (called-is state a o, ih, next-stream state a o)
 
 pub held-is : (offers : List Offer) (state : List ℤ) → length state ≡ entries → held state offers ≡ after (streamIn state) offers
 unfolding held after
 held-is [] state a = refl
 held-is (o ∷ offers) state a =
-    let ih = held-is offers (stepState state (o .number) (o .brought) (o .buffer)) (same-long state (o .number) (o .brought) (o .buffer) a) in
+    let ih = held-is offers (stepState state (o .number) (o .left) (o .right) (o .brought) (o .buffer)) (same-long state (o .number) (o .left) (o .right) (o .brought) (o .buffer) a) in
     rw (ih, next-stream state a o)
 
 -- ---- from a fresh state

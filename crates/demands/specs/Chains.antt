@@ -10,15 +10,15 @@ unfoldable pub called : List ℤ → Offer → Turn
 called state o = record {
   handed = streamIn state;
   offer = o;
-  answer = record { code = stepCode state (o .number) (o .brought) (o .buffer); stream = streamIn (stepState state (o .number) (o .brought) (o .buffer)) };
-  output = stepOut state (o .number) (o .brought) (o .buffer);
+  answer = record { code = stepCode state (o .number) (o .left) (o .right) (o .brought) (o .buffer); stream = streamIn (stepState state (o .number) (o .left) (o .right) (o .brought) (o .buffer)) };
+  output = stepOut state (o .number) (o .left) (o .right) (o .brought) (o .buffer);
 }
 
 unfoldable pub calls : List ℤ → List Offer → List Turn
 calls state [] = []
-calls state (o ∷ offers) = called state o ∷ calls (stepState state (o .number) (o .brought) (o .buffer)) offers
+calls state (o ∷ offers) = called state o ∷ calls (stepState state (o .number) (o .left) (o .right) (o .brought) (o .buffer)) offers
 
 -- the stream that the state holds after the calls
 unfoldable pub held : List ℤ → List Offer → Stream
 held state [] = streamIn state
-held state (o ∷ offers) = held (stepState state (o .number) (o .brought) (o .buffer)) offers
+held state (o ∷ offers) = held (stepState state (o .number) (o .left) (o .right) (o .brought) (o .buffer)) offers

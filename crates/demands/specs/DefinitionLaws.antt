@@ -1,10 +1,11 @@
 -- Laws of what the public calls compute: `demand-2`, that every coefficient and every sample is document 01's.
 use mathlib.Core.Path.{_≡_, refl, sym, ap, _∙_}
+use mathlib.Core.Bool.{true, cond}
 use mathlib.Core.List.{List, _∷_, _++_, append-assoc, append-nil}
 use Prim.Native.Nat.{ℕ, zero, suc, _+_, _-_, _*_, _/_, _^_, _≤_, _<_}
 use native.Mathlib.Omega.{arith}
 use native.Mathlib.Decide.{decLt}
-use lib.Dec.{T}
+use lib.Dec.{T, ltb}
 use lib.ListN.{length, drop}
 use lib.Seq.{drop-at}
 use lib.IntN.{ℤ, pos, natAbs, _+ℤ_, _-ℤ_}
@@ -25,8 +26,8 @@ use Rattle.split.specs.ShortLaws.{middle-exact, within-16}
 use Rattle.split.specs.ShortStepLaws.{short-ext}
 use Rattle.stream.specs.declared.Stream.{Stream}
 use Rattle.stream.specs.Steps.{hop, streamAfter, returned}
-use Rattle.stream.specs.StepLaws.{rising-size, falling-size}
-use Rattle.stream.specs.NextLaws.{hop-long, hop-at, next-n, next-expected, next-at, next-kept, stream-expected, returned-long}
+use Rattle.cosine.specs.KernelLaws.{rising-size, falling-size}
+use Rattle.stream.specs.NextLaws.{Fine, hop-long, hop-at, next-n, next-expected, next-shape, next-at, next-kept, stream-expected, stream-shape, returned-long}
 use Rattle.analysis.specs.declared.Route.{Route}
 use Rattle.analysis.specs.declared.Route.the-variants.{Direct, Short}
 use Rattle.analysis.specs.Analysis.{offered, coefficients}
@@ -40,7 +41,7 @@ use Rattle.block_calls.specs.Analysis.{analyseCauses, analyseCode, analyseOut}
 use Rattle.checks.specs.Causes.First.{none, pass}
 use Rattle.checks.specs.CauseLaws.{same}
 use Rattle.block_calls.specs.AnalysisLaws.{analysed-offered, analyse-answer, analyse-taken}
-use Rattle.checks.specs.Limits.{tailLimit}
+use Rattle.checks.specs.Limits.{tailLimit, areShapes}
 use Rattle.stream_calls.specs.Streams.{stepCode}
 use Rattle.recording_calls.specs.Recordings.{recordedCode, recordedOut, playedCode}
 use Rattle.recording_calls.specs.RecordingLaws.{recorded-facts, recorded-taken, Played, played-facts, played-taken}
@@ -56,97 +57,106 @@ use Rattle.demands.specs.RunLaws.{code, answered-code, no-entry}
 use Rattle.demands.specs.StreamLaws.{fresh-is}
 use Rattle.demands.specs.AnswerLaws.{demand-1}
 use Rattle.demands.specs.Recordings.{offering, outputs}
-use Rattle.demands.specs.Demands.{SoundTail, y, X, V′, Analysed, Stepped-on, Recorded-on, Played-on, Paged-on, Demand-2}
+use Rattle.demands.specs.Demands.{SoundTail, Fitting, window, y, X, V′, Analysed, Stepped-on, Recorded-on, Played-on, Paged-on, Demand-2}
 
--- ---- the window of the sine joints is W
-window-is : (N n : ℕ) → A.window N (rising N) (falling N) n ≡ W N n
-unfolding A.window rising falling
-window-is N n = go (decLt n (N / 2))
+-- ---- the window is that of the definitions below, and with long joints it is W
+window-is : (N l r n : ℕ) → A.window N (rising l N) (falling r N) n ≡ window N l r n
+unfolding A.window
+window-is N l r n = refl
+
+long-window : (N n : ℕ) → n < N → window N 0 0 n ≡ W N n
+unfolding rising falling
+long-window N n less = go (decLt n (N / 2))
   where
-    go : Dec (n < N / 2) → A.window N (rising N) (falling N) n ≡ W N n
+    go : Dec (n < N / 2) → cond (ltb n (N / 2)) (W N n) (W N (N / 2 + (n - N / 2))) ≡ W N n
     go (yes p) = cond-lt n (N / 2) (W N n) (W N (N / 2 + (n - N / 2))) p
     go (no p) =
         let e : N / 2 + (n - N / 2) ≡ n = omega arith in
         cond-ge n (N / 2) (W N n) (W N (N / 2 + (n - N / 2))) (omega arith) ∙ ap (W N) e
 
-y-is : (N : ℕ) (x : List ℤ) (n : ℕ) → windowed N x n ≡ y N x n
+y-is : (N l r : ℕ) (x : List ℤ) (n : ℕ) → windowed N l r x n ≡ y N l r x n
 unfolding A.y
-y-is N x n = rw (window-is N n)
+y-is N l r x n = rw (window-is N l r n)
 
-V-is : (N : ℕ) (c : List ℤ) (n : ℕ) → Y.V′ N (rising N) (falling N) c n ≡ V′ N c n
+V-is : (N l r : ℕ) (c : List ℤ) (n : ℕ) → Y.V′ N (rising l N) (falling r N) c n ≡ V′ N l r c n
 unfolding Y.V′ Y.U
-V-is N c n = rw (window-is N n)
+V-is N l r c n = rw (window-is N l r n)
 
-X-is : (N : ℕ) (x : List ℤ) (k : ℕ) → A.X N (windowed N x) k ≡ X N x k
+X-is : (N l r : ℕ) (x : List ℤ) (k : ℕ) → A.X N (windowed N l r x) k ≡ X N l r x k
 unfolding A.X A.S
-X-is N x k = ap (λ (z : ℤ). rnd z (2 ^ 28)) (S-ext N (windowed N x) (y N x) (λ n p. y-is N x n) k)
+X-is N l r x k = ap (λ (z : ℤ). rnd z (2 ^ 28)) (S-ext N (windowed N l r x) (y N l r x) (λ n p. y-is N l r x n) k)
 
 -- ---- one block
-module _ (route : Route) (N : ℕ) (x out : List ℤ) (e : analyseCode route N x out ≡ 0) where
-  analysed-is : analyseOut route N x out ≡ coefficients route N x
-  analysed-is = sym (analyse-taken route N x out e .1)
+module _ (route : Route) (N l r : ℕ) (x out : List ℤ) (e : analyseCode route N l r x out ≡ 0) where
+  analysed-is : analyseOut route N l r x out ≡ coefficients route N l r x
+  analysed-is = sym (analyse-taken route N l r x out e .1)
 
-module _ (N : ℕ) (x out : List ℤ) (k : ℕ) (p : k < N / 2) where
-  direct-is : analyseCode Direct N x out ≡ 0 → at (analyseOut Direct N x out) k ≡ X N x k
-  direct-is e = rw (analysed-is Direct N x out e) (by-direct N x k p ∙ X-is N x k)
+module _ (N l r : ℕ) (x out : List ℤ) (k : ℕ) (p : k < N / 2) where
+  direct-is : analyseCode Direct N l r x out ≡ 0 → at (analyseOut Direct N l r x out) k ≡ X N l r x k
+  direct-is e = rw (analysed-is Direct N l r x out e) (by-direct N l r x k p ∙ X-is N l r x k)
 
-  module _ (e : analyseCode Short N x out ≡ 0) where
+  module _ (e : analyseCode Short N l r x out ≡ 0) where
     short-offered : T (R.offered N)
     unfolding offered
-    short-offered = analysed-offered Short N x out e
+    short-offered = analysed-offered Short N l r x out e
 
     tab : T (tabled N)
-    tab = offered-tabled Short N (analysed-offered Short N x out e)
+    tab = offered-tabled Short N (analysed-offered Short N l r x out e)
 
-    short-at : at (analyseOut Short N x out) k ≡ shortX N (windowed N x) k
-    short-at = rw (analysed-is Short N x out e) (by-short N x k p)
+    short-at : at (analyseOut Short N l r x out) k ≡ shortX N (windowed N l r x) k
+    short-at = rw (analysed-is Short N l r x out e) (by-short N l r x k p)
 
-    short-is : at (analyseOut Short N x out) k ≡ shortX N (y N x) k
+    short-is : at (analyseOut Short N l r x out) k ≡ shortX N (y N l r x) k
     unfolding short
     short-is =
         short-at
-        ∙ sym (getD-table (shortX N (windowed N x)) (pos 0) (N / 2) k p)
-        ∙ ap (λ (l : List ℤ). at l k) (short-ext N (windowed N x) (y N x) (λ n q. y-is N x n))
-        ∙ getD-table (shortX N (y N x)) (pos 0) (N / 2) k p
+        ∙ sym (getD-table (shortX N (windowed N l r x)) (pos 0) (N / 2) k p)
+        ∙ ap (λ (q : List ℤ). at q k) (short-ext N (windowed N l r x) (y N l r x) (λ n q. y-is N l r x n))
+        ∙ getD-table (shortX N (y N l r x)) (pos 0) (N / 2) k p
 
-    short-near : ((n : ℕ) → n < N → Sample (at x n)) → natAbs (at (analyseOut Short N x out) k -ℤ X N x k) ≤ units
+    short-near : ((n : ℕ) → n < N → Sample (at x n)) → natAbs (at (analyseOut Short N l r x out) k -ℤ X N l r x k) ≤ units
     short-near samples =
-        rw (short-at, ← (X-is N x k))
-        (within-16 N short-offered (windowed N x)
-        (y-size N (rising N) (falling N) (part-of N tab) (λ n q. rising-size N n) (λ n q. falling-size N n) x (λ n q. sample-abs (samples n q))) k p)
+        rw (short-at, ← (X-is N l r x k))
+        (within-16 N short-offered (windowed N l r x)
+        (y-size N (rising l N) (falling r N) (part-of N tab) (λ n q. rising-size l N n) (λ n q. falling-size r N n) x (λ n q. sample-abs (samples n q))) k p)
 
-    short-exact : (i : ℕ) → k ≡ 3 * i + 1 → at (analyseOut Short N x out) k ≡ X N x k
-    short-exact i f = short-at ∙ ap (shortX N (windowed N x)) f ∙ middle-exact N short-offered (windowed N x) i ∙ ap (A.X N (windowed N x)) (sym f) ∙ X-is N x k
+    short-exact : (i : ℕ) → k ≡ 3 * i + 1 → at (analyseOut Short N l r x out) k ≡ X N l r x k
+    short-exact i f = short-at ∙ ap (shortX N (windowed N l r x)) f ∙ middle-exact N short-offered (windowed N l r x) i ∙ ap (A.X N (windowed N l r x)) (sym f) ∙ X-is N l r x k
 
-  analysed : Analysed N x out k
+  analysed : Analysed N l r x out k
   analysed = record { direct = direct-is; short = short-is; near = short-near; exact = short-exact }
 
 -- ---- one step
-stepped-on : (s : Stream) (number : ℕ) (x out : List ℤ) → stepCode s number x out ≡ 0 → Stepped-on s number x out
-stepped-on s number x out e = record {
-  long = rw (taken-buffer s number x out e) (hop-long (s .n) s refl x);
-  hop = λ n p. rw (taken-buffer s number x out e) (hop-at (s .n) s refl x n p ∙ ap (λ (z : ℤ). clamp (rnd (at (s .tail) n +ℤ z) (s .n * 2 ^ 30))) (V-is (s .n) x n));
-  n-kept = rw (taken-stream s number x out e) (next-n (s .n) s refl x);
-  counted = rw (taken-stream s number x out e) (next-expected (s .n) s refl x);
-  tail = λ n p. rw (taken-stream s number x out e) (next-at (s .n) s refl x n p ∙ V-is (s .n) x (s .n / 2 + n));
-  storage = rw (taken-stream s number x out e) (next-kept (s .n) s refl x);
+stepped-on : (s : Stream) (number l r : ℕ) (x out : List ℤ) → stepCode s number l r x out ≡ 0 → Stepped-on s number l r x out
+stepped-on s number l r x out e = record {
+  long = rw (taken-buffer s number l r x out e) (hop-long (s .n) s refl l r x);
+  hop = λ n p. rw (taken-buffer s number l r x out e) (hop-at (s .n) s refl l r x n p ∙ ap (λ (z : ℤ). clamp (rnd (at (s .tail) n +ℤ z) (s .n * 2 ^ 30))) (V-is (s .n) l r x n));
+  n-kept = rw (taken-stream s number l r x out e) (next-n (s .n) s refl l r x);
+  counted = rw (taken-stream s number l r x out e) (next-expected (s .n) s refl l r x);
+  remembered = rw (taken-stream s number l r x out e) (next-shape (s .n) s refl l r x);
+  tail = λ n p. rw (taken-stream s number l r x out e) (next-at (s .n) s refl l r x n p ∙ V-is (s .n) l r x (s .n / 2 + n));
+  storage = rw (taken-stream s number l r x out e) (next-kept (s .n) s refl l r x);
 }
 
 -- ---- a recording is its blocks, analysed one by one
+long-shapes : areShapes 0 0 ≡ true
+unfolding areShapes
+long-shapes = refl
+
 recorded-on : (route : Route) (N H : ℕ) (x out : List ℤ) → recordedCode route N H x out ≡ 0 → Recorded-on route N H x out
 unfolding analysis part analyseCauses
 recorded-on route N H x out e =
     let f = recorded-facts route N H x out e in
     let t = offered-tabled route N (is-T (f .offers)) in
     let two : N / 2 + N / 2 ≡ N = omega (arith, length-of N t .twelve) in
-    let g : ℕ → List ℤ = λ b. coefficients route N (block N x b) in
-    let size : (b : ℕ) → b < H + 1 → length (g b) ≡ N / 2 = λ b p. coefficients-length route N (block N x b) in
+    let g : ℕ → List ℤ = λ b. coefficients route N 0 0 (block N x b) in
+    let size : (b : ℕ) → b < H + 1 → length (g b) ≡ N / 2 = λ b p. coefficients-length route N 0 0 (block N x b) in
     let is : recordedOut route N H x out ≡ joined (H + 1) g = sym (recorded-taken route N H x out e .1) in
     record {
       long = rw is (joined-length g (N / 2) (H + 1) size (H + 1) (omega arith));
       each = λ b p room l.
-          let z = sym (analyse-answer route N (block N x b) room (pass (f .offers) (same (block-long N H two x (f .long) b p) (same l none))) .0) in
-          (z, rw is (joined-part g (N / 2) (H + 1) size (H + 1) b (omega arith) (omega arith)) ∙ analyse-taken route N (block N x b) room z .1);
+          let z = sym (analyse-answer route N 0 0 (block N x b) room (pass (f .offers) (pass long-shapes (same (block-long N H two x (f .long) b p) (same l none)))) .0) in
+          (z, rw is (joined-part g (N / 2) (H + 1) size (H + 1) b (omega arith) (omega arith)) ∙ analyse-taken route N 0 0 (block N x b) room z .1);
     }
 
 -- ---- and a synthesis is the steps of a stream
@@ -159,7 +169,7 @@ module _ (N H : ℕ) (x out : List ℤ) (e : playedCode N H x out ≡ 0) (rooms 
   facts = played-facts N H x out e
 
   offer-at : ℕ → Offer
-  offer-at b = record { number = b; brought = part N x b; buffer = rooms b }
+  offer-at b = record { number = b; left = 0; right = 0; brought = part N x b; buffer = rooms b }
 
   -- block b is taken by the stream after b steps
   taken-at : (b : ℕ) → b < B → code (streamAfter N (part N x) b) (offer-at b) ≡ 0
@@ -168,19 +178,28 @@ module _ (N H : ℕ) (x out : List ℤ) (e : playedCode N H x out ≡ 0) (rooms 
       let s = streamAfter N (part N x) b in
       let fine = stream-fine N (facts .length-is) B x (facts .long) (facts .range) b (omega arith) in
       let l = part-length-is N (facts .length-is) B x (facts .long) (facts .range) b p in
-      demand-1 .stepped s b (part N x b) (rooms b) .taken (rw (fine .n-is) (facts .length-is)) (sound-tail s (fine .n-is) (fine .limited)) (sym (stream-expected N (part N x) b)) (rw (fine .n-is) l) (rw (fine .n-is) (fit b (omega arith)))
+      demand-1 .stepped s b 0 0 (part N x b) (rooms b) .taken (fitting b fine) (rw (fine .n-is) l) (rw (fine .n-is) (fit b (omega arith)))
       (record { each = part-range N (facts .length-is) B x (facts .long) (facts .range) b p .small })
     where
       sound-tail : (s : Stream) → s .n ≡ N → ((n : ℕ) → n < N / 2 → natAbs (at (s .tail) n) ≤ N / 2 * 2 ^ 55) → SoundTail s
       sound-tail s i h = record { each = rw i h }
 
+      fitting : (b : ℕ) → Fine N (streamAfter N (part N x) b) → Fitting (streamAfter N (part N x) b) b 0 0
+      fitting b fine = record {
+        length-is = rw (fine .n-is) (facts .length-is);
+        tail-is = sound-tail (streamAfter N (part N x) b) (fine .n-is) (fine .limited);
+        number-is = sym (stream-expected N (part N x) b);
+        shapes = record { left-is = omega arith; right-is = omega arith };
+        left-is = sym (stream-shape N (part N x) b);
+      }
+
   output-is : (b : ℕ) → b < B → answered (streamAfter N (part N x) b) (offer-at b) .output ≡ returned N (part N x) b
   unfolding answered offer-at returned
-  output-is b p = taken-buffer (streamAfter N (part N x) b) b (part N x b) (rooms b) (taken-at b p)
+  output-is b p = taken-buffer (streamAfter N (part N x) b) b 0 0 (part N x b) (rooms b) (taken-at b p)
 
   stream-is : (b : ℕ) → b < B → answered (streamAfter N (part N x) b) (offer-at b) .answer .stream ≡ streamAfter N (part N x) (suc b)
   unfolding answered offer-at streamAfter
-  stream-is b p = taken-stream (streamAfter N (part N x) b) b (part N x b) (rooms b) (taken-at b p)
+  stream-is b p = taken-stream (streamAfter N (part N x) b) b 0 0 (part N x b) (rooms b) (taken-at b p)
 
   -- the steps from block b on
   from : ℕ → ℕ → List Turn
@@ -268,7 +287,8 @@ two-pages N H x y out out′ e f same =
 
 pub demand-2 : Demand-2
 demand-2 = record {
-  analysed = λ route N x out e. rw (analysed-is route N x out e) (coefficients-length route N x);
+  long-window = long-window;
+  analysed = λ route N l r x out e. rw (analysed-is route N l r x out e) (coefficients-length route N l r x);
   coefficient = analysed;
   stepped = stepped-on;
   recorded = recorded-on;

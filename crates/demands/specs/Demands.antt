@@ -5,16 +5,17 @@
 -- definitions say. A check of the public calls' crates proves that of the code.
 use mathlib.Core.Path.{_≡_}
 use mathlib.Core.Logic.{_≢_}
+use mathlib.Core.Bool.{cond}
 use mathlib.Core.List.{List, [], _∷_, _++_}
-use Prim.Native.Nat.{ℕ, suc, _+_, _*_, _/_, _^_, _≤_, _<_}
-use lib.Dec.{T}
+use Prim.Native.Nat.{ℕ, suc, _+_, _-_, _*_, _/_, _^_, _≤_, _<_}
+use lib.Dec.{T, ltb}
 use lib.ListN.{length, take, drop, getD, replicate}
 use lib.IntN.{ℤ, pos, natAbs, _+ℤ_, _-ℤ_, _*ℤ_}
 use lib.Signed.{_<ℤ_}
 use Rattle.arithmetic.specs.Rounding.{rnd, clamp, Sample}
 use Rattle.arithmetic.specs.Sums.{sum}
 use Rattle.arithmetic.specs.Lists.{at}
-use Rattle.cosine.specs.Kernels.{tabled, W, K}
+use Rattle.cosine.specs.Kernels.{tabled, W, rising, falling, K}
 use Rattle.split.specs.ShortRoute.{shortX, units}
 use Rattle.stream.specs.declared.Stream.{Stream}
 use Rattle.stream.specs.Synthesis as S
@@ -40,7 +41,7 @@ use Rattle.demands.specs.Steps.{Offer, Turn, Entry, turns, final, Record
 use Rattle.demands.specs.Chains.{calls, held}
 use Rattle.demands.specs.Recordings.{ByOneCall, BlockByBlock, Back, SharperBack, offering, outputs}
 
--- ================ DEMAND 1: the whole work, or the numbered refusal of document 01, for recordings, pages and numbered blocks as document 02, P1, P2 and P6, has it, at P4's six lengths, the short route at four, with stream and buffers as they were
+-- ================ DEMAND 1: the whole work, or the numbered refusal of document 01, for recordings, pages, numbered blocks and joints as document 02, P1, P2, P6 and P7, has it, at P4's six lengths, the short route at four, with stream and buffers as they were
 -- the causes of the table, in words of the input
 abbrev pub Tabled : ℕ → Type 0
 Tabled N = T (tabled N)
@@ -58,32 +59,49 @@ pub record InRange (x : List ℤ) : Type 0 where
 pub record SoundTail (s : Stream) : Type 0 where
   pub each : (n : ℕ) → n < s .n / 2 → natAbs (at (s .tail) n) ≤ tailLimit (s .n / 2)
 
+-- the shapes of a block's joints: 0 or 1
+pub record Shapes (left right : ℕ) : Type 0 where
+  pub left-is : left ≤ 1
+  pub right-is : right ≤ 1
+
 -- `analyse`, by either route
-pub record AnalyseAnswers (route : Route) (N : ℕ) (x out : List ℤ) : Type 0 where
-  pub one : ¬ Offered route N → analyseCode route N x out ≡ 1
-  pub two-in : Offered route N → length x ≢ N → analyseCode route N x out ≡ 2
-  pub two-out : Offered route N → length out ≢ N / 2 → analyseCode route N x out ≡ 2
-  pub taken : Offered route N → length x ≡ N → length out ≡ N / 2 → analyseCode route N x out ≡ 0
-  pub kept : analyseCode route N x out ≢ 0 → analyseOut route N x out ≡ out
+pub record AnalyseAnswers (route : Route) (N left right : ℕ) (x out : List ℤ) : Type 0 where
+  pub one : ¬ Offered route N → analyseCode route N left right x out ≡ 1
+  pub eight : Offered route N → ¬ Shapes left right → analyseCode route N left right x out ≡ 8
+  pub two-in : Offered route N → Shapes left right → length x ≢ N → analyseCode route N left right x out ≡ 2
+  pub two-out : Offered route N → Shapes left right → length out ≢ N / 2 → analyseCode route N left right x out ≡ 2
+  pub taken : Offered route N → Shapes left right → length x ≡ N → length out ≡ N / 2 → analyseCode route N left right x out ≡ 0
+  pub kept : analyseCode route N left right x out ≢ 0 → analyseOut route N left right x out ≡ out
 
 -- `fresh`
 pub record FreshAnswers (N : ℕ) : Type 0 where
   pub one : ¬ Tabled N → fresh N ≡ record { code = 1; stream = S.fresh 0 }
   pub taken : Tabled N → fresh N ≡ record { code = 0; stream = S.fresh N }
 
--- `step`. A number has 32 bits, so that a stream which expects 2^32 or more, as after the last number or forged, takes no block
-pub record StepAnswers (s : Stream) (number : ℕ) (x out : List ℤ) : Type 0 where
-  pub four-n : ¬ Tabled (s .n) → stepCode s number x out ≡ 4
-  pub four-tail : ¬ SoundTail s → stepCode s number x out ≡ 4
-  pub seven : Tabled (s .n) → SoundTail s → number ≢ s .expected → stepCode s number x out ≡ 7
-  pub seven-none : Tabled (s .n) → SoundTail s → number < 2 ^ 32 → 2 ^ 32 ≤ s .expected → stepCode s number x out ≡ 7
-  pub two-in : Tabled (s .n) → SoundTail s → number ≡ s .expected → length x ≢ s .n / 2 → stepCode s number x out ≡ 2
-  pub two-out : Tabled (s .n) → SoundTail s → number ≡ s .expected → length out ≢ s .n / 2 → stepCode s number x out ≡ 2
-  pub three : Tabled (s .n) → SoundTail s → number ≡ s .expected → length x ≡ s .n / 2 → length out ≡ s .n / 2 → ¬ InRange x → stepCode s number x out ≡ 3
-  pub taken : Tabled (s .n) → SoundTail s → number ≡ s .expected → length x ≡ s .n / 2 → length out ≡ s .n / 2 → InRange x → stepCode s number x out ≡ 0
-  pub code : step s number x out .code ≡ stepCode s number x out
-  pub kept-stream : stepCode s number x out ≢ 0 → step s number x out .stream ≡ s
-  pub kept : stepCode s number x out ≢ 0 → stepOut s number x out ≡ out
+-- what passes causes 4, 7 and 8
+pub record Fitting (s : Stream) (number left right : ℕ) : Type 0 where
+  pub length-is : Tabled (s .n)
+  pub tail-is : SoundTail s
+  pub number-is : number ≡ s .expected
+  pub shapes : Shapes left right
+  pub left-is : left ≡ s .shape
+
+-- `step`. A number has 32 bits, so that a stream which expects 2^32 or more, as after the last number or forged, takes no block; nor does one whose shape is forged
+pub record StepAnswers (s : Stream) (number left right : ℕ) (x out : List ℤ) : Type 0 where
+  pub four-n : ¬ Tabled (s .n) → stepCode s number left right x out ≡ 4
+  pub four-tail : ¬ SoundTail s → stepCode s number left right x out ≡ 4
+  pub seven : Tabled (s .n) → SoundTail s → number ≢ s .expected → stepCode s number left right x out ≡ 7
+  pub seven-none : Tabled (s .n) → SoundTail s → number < 2 ^ 32 → 2 ^ 32 ≤ s .expected → stepCode s number left right x out ≡ 7
+  pub eight : Tabled (s .n) → SoundTail s → number ≡ s .expected → ¬ Shapes left right → stepCode s number left right x out ≡ 8
+  pub eight-left : Tabled (s .n) → SoundTail s → number ≡ s .expected → left ≢ s .shape → stepCode s number left right x out ≡ 8
+  pub eight-forged : Tabled (s .n) → SoundTail s → number ≡ s .expected → 1 < s .shape → stepCode s number left right x out ≡ 8
+  pub two-in : Fitting s number left right → length x ≢ s .n / 2 → stepCode s number left right x out ≡ 2
+  pub two-out : Fitting s number left right → length out ≢ s .n / 2 → stepCode s number left right x out ≡ 2
+  pub three : Fitting s number left right → length x ≡ s .n / 2 → length out ≡ s .n / 2 → ¬ InRange x → stepCode s number left right x out ≡ 3
+  pub taken : Fitting s number left right → length x ≡ s .n / 2 → length out ≡ s .n / 2 → InRange x → stepCode s number left right x out ≡ 0
+  pub code : step s number left right x out .code ≡ stepCode s number left right x out
+  pub kept-stream : stepCode s number left right x out ≢ 0 → step s number left right x out .stream ≡ s
+  pub kept : stepCode s number left right x out ≢ 0 → stepOut s number left right x out ≡ out
 
 -- `fresh_in_place`: taken, the state holds the stream that `fresh` makes
 pub record StateFreshAnswers (N : ℕ) (state : List ℤ) : Type 0 where
@@ -94,18 +112,20 @@ pub record StateFreshAnswers (N : ℕ) (state : List ℤ) : Type 0 where
   pub long : freshCode N state ≡ 0 → length (freshState N state) ≡ entries
   pub kept : freshCode N state ≢ 0 → freshState N state ≡ state
 
--- `step_in_place`: `step` on the stream that the state holds, which then holds the stream that `step` gives back. A negative N is 4, and a negative expected
--- number is 7 for every block
-pub record StateStepAnswers (state : List ℤ) (number : ℕ) (x out : List ℤ) : Type 0 where
-  pub two-state : length state ≢ entries → stateCode state number x out ≡ 2
-  pub same : length state ≡ entries → stateCode state number x out ≡ stepCode (streamIn state) number x out
-  pub same-stream : length state ≡ entries → streamIn (stepState state number x out) ≡ step (streamIn state) number x out .stream
-  pub same-out : length state ≡ entries → stateOut state number x out ≡ stepOut (streamIn state) number x out
-  pub four-negative : length state ≡ entries → at state 0 <ℤ pos 0 → stateCode state number x out ≡ 4
-  pub seven-negative : length state ≡ entries → Tabled (streamIn state .n) → SoundTail (streamIn state) → number < 2 ^ 32 → at state 1 <ℤ pos 0 → stateCode state number x out ≡ 7
-  pub long : length (stepState state number x out) ≡ length state
-  pub kept-state : stateCode state number x out ≢ 0 → stepState state number x out ≡ state
-  pub kept : stateCode state number x out ≢ 0 → stateOut state number x out ≡ out
+-- `step_in_place`: `step` on the stream that the state holds, which then holds the stream that `step` gives back. A negative N is 4, a negative expected
+-- number is 7 for every block, and a shape below 0 or above 1 is 8 for every block that bears the expected number
+pub record StateStepAnswers (state : List ℤ) (number left right : ℕ) (x out : List ℤ) : Type 0 where
+  pub two-state : length state ≢ entries → stateCode state number left right x out ≡ 2
+  pub same : length state ≡ entries → stateCode state number left right x out ≡ stepCode (streamIn state) number left right x out
+  pub same-stream : length state ≡ entries → streamIn (stepState state number left right x out) ≡ step (streamIn state) number left right x out .stream
+  pub same-out : length state ≡ entries → stateOut state number left right x out ≡ stepOut (streamIn state) number left right x out
+  pub four-negative : length state ≡ entries → at state 0 <ℤ pos 0 → stateCode state number left right x out ≡ 4
+  pub seven-negative : length state ≡ entries → Tabled (streamIn state .n) → SoundTail (streamIn state) → number < 2 ^ 32 → at state 1 <ℤ pos 0 → stateCode state number left right x out ≡ 7
+  pub eight-negative : length state ≡ entries → Tabled (streamIn state .n) → SoundTail (streamIn state) → number ≡ streamIn state .expected → at state 2 <ℤ pos 0 → stateCode state number left right x out ≡ 8
+  pub eight-large : length state ≡ entries → Tabled (streamIn state .n) → SoundTail (streamIn state) → number ≡ streamIn state .expected → pos 1 <ℤ at state 2 → stateCode state number left right x out ≡ 8
+  pub long : length (stepState state number left right x out) ≡ length state
+  pub kept-state : stateCode state number left right x out ≢ 0 → stepState state number left right x out ≡ state
+  pub kept : stateCode state number left right x out ≢ 0 → stateOut state number left right x out ≡ out
 
 -- `analyse_recording`, by either route: H × M samples in, the (H + 1) × M coefficients of all blocks out
 pub record RecordedAnswers (route : Route) (N H : ℕ) (x out : List ℤ) : Type 0 where
@@ -171,56 +191,61 @@ pub record ListingAnswers (text : List ℕ) : Type 0 where
   pub fits : length (listing text) ≤ room
 
 pub record Demand-1 : Type 0 where
-  pub analyse : (route : Route) (N : ℕ) (x out : List ℤ) → AnalyseAnswers route N x out
+  pub analyse : (route : Route) (N left right : ℕ) (x out : List ℤ) → AnalyseAnswers route N left right x out
   pub made : (N : ℕ) → FreshAnswers N
-  pub stepped : (s : Stream) (number : ℕ) (x out : List ℤ) → StepAnswers s number x out
+  pub stepped : (s : Stream) (number left right : ℕ) (x out : List ℤ) → StepAnswers s number left right x out
   -- 4294967295 is the last number: once it is taken, every block is 7
-  pub last-number : (s : Stream) (x out : List ℤ) → stepCode s 4294967295 x out ≡ 0 → (number : ℕ) → number < 2 ^ 32 → (y room : List ℤ) →
-      stepCode (step s 4294967295 x out .stream) number y room ≡ 7
+  pub last-number : (s : Stream) (l r : ℕ) (x out : List ℤ) → stepCode s 4294967295 l r x out ≡ 0 → (number l′ r′ : ℕ) → number < 2 ^ 32 → (y room : List ℤ) →
+      stepCode (step s 4294967295 l r x out .stream) number l′ r′ y room ≡ 7
   pub state-made : (N : ℕ) (state : List ℤ) → StateFreshAnswers N state
-  pub state-stepped : (state : List ℤ) (number : ℕ) (x out : List ℤ) → StateStepAnswers state number x out
+  pub state-stepped : (state : List ℤ) (number left right : ℕ) (x out : List ℤ) → StateStepAnswers state number left right x out
   pub recorded : (route : Route) (N H : ℕ) (x out : List ℤ) → RecordedAnswers route N H x out
   pub played : (N H : ℕ) (x out : List ℤ) → PlayedAnswers N H x out
   pub inner : (N H : ℕ) (out : List ℤ) → InnerAnswers N H out
   pub paged : (N H : ℕ) (x : List ℤ) (out : List ℕ) → PageAnswers N H x out
   pub listed : (text : List ℕ) → ListingAnswers text
 
--- ================ DEMAND 2: every coefficient and every sample is document 01's with a turn of 864 parts (P4) and halves going away from zero (P5; its sign rule is in Turned), of a recording between the two hops of zeros of document 02, P1, and every byte of a page is P2's
--- y(n) = rnd(W(n) × x(n) / 2^18)
-abbrev pub y : ℕ → List ℤ → ℕ → ℤ
-y N x n = rnd (W N n *ℤ at x n) (2 ^ 18)
+-- ================ DEMAND 2: every coefficient and every sample is document 01's with a turn of 864 parts (P4), halves going away from zero (P5; its sign rule is in Turned), with joints of two shapes (P7), of a recording between the two hops of zeros of document 02, P1, and every byte of a page is P2's
+-- the window of a block with joints of the shapes left and right (P7): W(n) where both are long
+abbrev pub window : (N left right : ℕ) → ℕ → ℤ
+window N left right n = cond (ltb n (N / 2)) (rising left N n) (falling right N (n - N / 2))
+
+-- y(n) = rnd(W(n) × x(n) / 2^18), with that window for W
+abbrev pub y : (N left right : ℕ) → List ℤ → ℕ → ℤ
+y N left right x n = rnd (window N left right n *ℤ at x n) (2 ^ 18)
 
 -- X(k) = rnd(S(k) / 2^28), S(k) the sum over n of y(n) × K(n,k)
-abbrev pub X : ℕ → List ℤ → ℕ → ℤ
-X N x k = rnd (sum N (λ n. y N x n *ℤ K N n k)) (2 ^ 28)
+abbrev pub X : (N left right : ℕ) → List ℤ → ℕ → ℤ
+X N left right x k = rnd (sum N (λ n. y N left right x n *ℤ K N n k)) (2 ^ 28)
 
--- V(n) = W(n) × U(n), U(n) = rnd((sum over k of X(k) × K(n,k)) / 2^26)
-abbrev pub V′ : ℕ → List ℤ → ℕ → ℤ
-V′ N c n = W N n *ℤ rnd (sum (N / 2) (λ k. at c k *ℤ K N n k)) (2 ^ 26)
+-- V(n) = W(n) × U(n), U(n) = rnd((sum over k of X(k) × K(n,k)) / 2^26), with the block's window for W
+abbrev pub V′ : (N left right : ℕ) → List ℤ → ℕ → ℤ
+V′ N left right c n = window N left right n *ℤ rnd (sum (N / 2) (λ k. at c k *ℤ K N n k)) (2 ^ 26)
 
 -- a block that `analyse` took
-pub record Analysed (N : ℕ) (x out : List ℤ) (k : ℕ) : Type 0 where
-  pub direct : analyseCode Direct N x out ≡ 0 → at (analyseOut Direct N x out) k ≡ X N x k
-  pub short : analyseCode Short N x out ≡ 0 → at (analyseOut Short N x out) k ≡ shortX N (y N x) k
+pub record Analysed (N left right : ℕ) (x out : List ℤ) (k : ℕ) : Type 0 where
+  pub direct : analyseCode Direct N left right x out ≡ 0 → at (analyseOut Direct N left right x out) k ≡ X N left right x k
+  pub short : analyseCode Short N left right x out ≡ 0 → at (analyseOut Short N left right x out) k ≡ shortX N (y N left right x) k
   -- the short route lies within 16 units of the definition ..
-  pub near : analyseCode Short N x out ≡ 0 → ((n : ℕ) → n < N → Sample (at x n)) → natAbs (at (analyseOut Short N x out) k -ℤ X N x k) ≤ units
+  pub near : analyseCode Short N left right x out ≡ 0 → ((n : ℕ) → n < N → Sample (at x n)) → natAbs (at (analyseOut Short N left right x out) k -ℤ X N left right x k) ≤ units
   -- .. and the coefficients 3i + 1 are the definition's
-  pub exact : analyseCode Short N x out ≡ 0 → (i : ℕ) → k ≡ 3 * i + 1 → at (analyseOut Short N x out) k ≡ X N x k
+  pub exact : analyseCode Short N left right x out ≡ 0 → (i : ℕ) → k ≡ 3 * i + 1 → at (analyseOut Short N left right x out) k ≡ X N left right x k
 
--- a step that was taken: the hop, one more expected, the new tail, and storage beyond M as it was
-pub record Stepped-on (s : Stream) (number : ℕ) (x out : List ℤ) : Type 0 where
-  pub long : length (stepOut s number x out) ≡ s .n / 2
-  pub hop : (n : ℕ) → n < s .n / 2 → at (stepOut s number x out) n ≡ clamp (rnd (at (s .tail) n +ℤ V′ (s .n) x n) (s .n * 2 ^ 30))
-  pub n-kept : step s number x out .stream .n ≡ s .n
-  pub counted : step s number x out .stream .expected ≡ s .expected + 1
-  pub tail : (n : ℕ) → n < s .n / 2 → at (step s number x out .stream .tail) n ≡ V′ (s .n) x (s .n / 2 + n)
-  pub storage : drop (s .n / 2) (step s number x out .stream .tail) ≡ drop (s .n / 2) (s .tail)
+-- a step that was taken: the hop, one more expected, the right shape remembered, the new tail, and storage beyond M as it was
+pub record Stepped-on (s : Stream) (number left right : ℕ) (x out : List ℤ) : Type 0 where
+  pub long : length (stepOut s number left right x out) ≡ s .n / 2
+  pub hop : (n : ℕ) → n < s .n / 2 → at (stepOut s number left right x out) n ≡ clamp (rnd (at (s .tail) n +ℤ V′ (s .n) left right x n) (s .n * 2 ^ 30))
+  pub n-kept : step s number left right x out .stream .n ≡ s .n
+  pub counted : step s number left right x out .stream .expected ≡ s .expected + 1
+  pub remembered : step s number left right x out .stream .shape ≡ right
+  pub tail : (n : ℕ) → n < s .n / 2 → at (step s number left right x out .stream .tail) n ≡ V′ (s .n) left right x (s .n / 2 + n)
+  pub storage : drop (s .n / 2) (step s number left right x out .stream .tail) ≡ drop (s .n / 2) (s .tail)
 
--- the calls over recordings are the single-block calls and the stream, block by block
+-- the calls over recordings are the single-block calls and the stream, block by block, with long joints
 pub record Recorded-on (route : Route) (N H : ℕ) (x out : List ℤ) : Type 0 where
   pub long : length (recordedOut route N H x out) ≡ (H + 1) * (N / 2)
   pub each : (b : ℕ) → b ≤ H → (room : List ℤ) → length room ≡ N / 2 →
-      (analyseCode route N (block N x b) room ≡ 0) × (part N (recordedOut route N H x out) b ≡ analyseOut route N (block N x b) room)
+      (analyseCode route N 0 0 (block N x b) room ≡ 0) × (part N (recordedOut route N H x out) b ≡ analyseOut route N 0 0 (block N x b) room)
 
 -- every block is taken, under its number; what comes back is what the steps return, without the run-in
 pub record Played-on (N H : ℕ) (x out : List ℤ) (rooms : ℕ → List ℤ) : Type 0 where
@@ -245,16 +270,18 @@ pub record Paged-on (N H : ℕ) (x : List ℤ) (page : List ℕ) : Type 0 where
   pub blanks : (b j : ℕ) → b ≤ H → suc j < N / 2 / 6 → take 8 (getD (lines page) (b * (N / 2 / 6) + suc j) []) ≡ replicate 8 blank
 
 pub record Demand-2 : Type 0 where
-  pub analysed : (route : Route) (N : ℕ) (x out : List ℤ) → analyseCode route N x out ≡ 0 → length (analyseOut route N x out) ≡ N / 2
-  pub coefficient : (N : ℕ) (x out : List ℤ) (k : ℕ) → k < N / 2 → Analysed N x out k
-  pub stepped : (s : Stream) (number : ℕ) (x out : List ℤ) → stepCode s number x out ≡ 0 → Stepped-on s number x out
+  -- a window of long joints is document 01's W
+  pub long-window : (N n : ℕ) → n < N → window N 0 0 n ≡ W N n
+  pub analysed : (route : Route) (N left right : ℕ) (x out : List ℤ) → analyseCode route N left right x out ≡ 0 → length (analyseOut route N left right x out) ≡ N / 2
+  pub coefficient : (N left right : ℕ) (x out : List ℤ) (k : ℕ) → k < N / 2 → Analysed N left right x out k
+  pub stepped : (s : Stream) (number left right : ℕ) (x out : List ℤ) → stepCode s number left right x out ≡ 0 → Stepped-on s number left right x out
   pub recorded : (route : Route) (N H : ℕ) (x out : List ℤ) → recordedCode route N H x out ≡ 0 → Recorded-on route N H x out
   pub played : (N H : ℕ) (x out : List ℤ) → playedCode N H x out ≡ 0 → (rooms : ℕ → List ℤ) → ((b : ℕ) → b ≤ H → length (rooms b) ≡ N / 2) → Played-on N H x out rooms
   pub paged : (N H : ℕ) (x : List ℤ) (out : List ℕ) → pageCode N H x out ≡ 0 → Paged-on N H x (pageOut N H x out)
   -- two different sets of coefficients give two different pages
   pub pages : (N H : ℕ) (x y : List ℤ) (out out′ : List ℕ) → pageCode N H x out ≡ 0 → pageCode N H y out′ ≡ 0 → pageOut N H x out ≡ pageOut N H y out′ → x ≡ y
 
--- ================ DEMAND 3: sound there and back, of a recording as P1 has it, its blocks offered in any order and each known by its number (P6)
+-- ================ DEMAND 3: sound there and back, of a recording as P1 has it, its blocks offered in any order and each known by its number (P6), in any mixture of shapes (P7)
 pub record Demand-3 : Type 0 where
   -- every list of steps, whatever they bring, by value and on one state
   pub answered : (N : ℕ) → Tabled N → (offers : List Offer) → Answered N (turns N offers) (final N offers)

@@ -1,5 +1,5 @@
--- Two lists of steps at N = 12: a recording of three hops and one of a single hop, their blocks as they are brought, and what is offered, refused steps
--- among it; and the same blocks for the calls over whole recordings. ExampleLaws applies the theorems to them.
+-- Two lists of steps at N = 12: a recording of three hops, through joints that pass from long to short and back, and one of a single hop, their blocks as they are
+-- brought, and what is offered, refused steps among it; and their blocks with long joints for the calls over whole recordings. ExampleLaws applies the theorems to them.
 use mathlib.Core.List.{List, [], _∷_, _++_}
 use Prim.Native.Nat.{ℕ, zero, suc}
 use lib.ListN.{replicate}
@@ -61,6 +61,18 @@ block-3 = changed
     (minus 653647 ∷ pos 283986 ∷ pos 2229876 ∷ minus 3208115 ∷ pos 275489 ∷ pos 3556052 ∷ [])
     (pos 7 ∷ pos 7 ∷ minus 7 ∷ pos 2 ∷ pos 0 ∷ minus 6 ∷ [])
 
+-- blocks 1 and 2 with a short joint between them
+unfoldable pub sharp-1 : List ℤ
+sharp-1 = changed
+    (pos 382774 ∷ minus 1125450 ∷ pos 1789872 ∷ minus 2332545 ∷ pos 2716499 ∷ minus 2915662 ∷ [])
+    (minus 7 ∷ pos 6 ∷ pos 0 ∷ pos 7 ∷ minus 2 ∷ minus 7 ∷ [])
+
+-- by the short route, which gives -357554 where the direct one gives -357555
+unfoldable pub sharp-2 : List ℤ
+sharp-2 = changed
+    (pos 1192925 ∷ minus 220795 ∷ minus 357554 ∷ pos 1776083 ∷ pos 3429494 ∷ pos 1797816 ∷ [])
+    (pos 1 ∷ pos 0 ∷ minus 7 ∷ pos 7 ∷ minus 4 ∷ pos 2 ∷ [])
+
 -- block 0 of the single hop is block 0 above; behind it come zeros
 unfoldable pub knock-1 : List ℤ
 knock-1 = changed
@@ -85,22 +97,24 @@ loud = pos 0 ∷ pos 0 ∷ pos 536870913 ∷ pos 0 ∷ pos 0 ∷ pos 0 ∷ []
 unfoldable pub low : List ℤ
 low = pos 0 ∷ pos 0 ∷ pos 0 ∷ pos 0 ∷ pos 0 ∷ minus 536870913 ∷ []
 
-abbrev pub offer : ℕ → List ℤ → List ℤ → Offer
-offer number coefficients buffer = record { number = number; brought = coefficients; buffer = buffer }
+abbrev pub offer : (number left right : ℕ) → List ℤ → List ℤ → Offer
+offer number left right coefficients buffer = record { number = number; left = left; right = right; brought = coefficients; buffer = buffer }
 
--- blocks too early, again, and with a wrong number whatever else is wrong; damaged ones under the right number; and each of the four until it is taken
+-- blocks too early, again, and with a wrong number whatever else is wrong; shapes that do not fit, and that are none; damaged ones under the right number; and
+-- each of the four until it is taken
 unfoldable pub offers : List Offer
 offers =
-    offer 1 block-1 room ∷ offer 0 five room ∷ offer 0 block-0 room ∷ offer 0 block-0 room ∷ offer 1 loud room ∷ offer 3 block-3 room ∷ offer 1 block-1 room ∷
-    offer 2 block-2 small-room ∷ offer 2 block-2 room ∷ offer 7 loud small-room ∷ offer 2 block-0 room ∷ offer 3 low room ∷ offer 3 block-3 room ∷
-    offer 4 loud room ∷ offer 4294967295 block-0 room ∷ []
+    offer 1 0 1 sharp-1 room ∷ offer 0 1 0 block-0 room ∷ offer 0 0 0 five room ∷ offer 0 0 0 block-0 room ∷ offer 0 0 0 block-0 room ∷ offer 1 0 2 loud room ∷
+    offer 1 0 1 loud room ∷ offer 3 0 0 block-3 room ∷ offer 1 0 1 sharp-1 room ∷ offer 2 0 0 sharp-2 room ∷ offer 2 1 0 sharp-2 small-room ∷
+    offer 2 1 0 sharp-2 room ∷ offer 7 9 9 loud small-room ∷ offer 2 1 0 block-0 room ∷ offer 3 0 0 low room ∷ offer 3 0 0 block-3 room ∷ offer 4 0 0 loud room ∷
+    offer 4294967295 0 0 block-0 room ∷ []
 
 unfoldable pub knock-offers : List Offer
-knock-offers = offer 0 block-0 room ∷ offer 1 loud room ∷ offer 1 knock-1 room ∷ []
+knock-offers = offer 0 0 0 block-0 room ∷ offer 1 0 0 loud room ∷ offer 1 0 0 knock-1 room ∷ []
 
 -- a stream that expects the last number
 unfoldable pub at-the-last : Stream
-at-the-last = record { n = 12; expected = 4294967295; tail = replicate storage (pos 0) }
+at-the-last = record { n = 12; expected = 4294967295; shape = 1; tail = replicate storage (pos 0) }
 
 -- ---- the same blocks for the calls over whole recordings: their coefficients one after the other, and a buffer for the samples
 unfoldable pub whole : List ℤ

@@ -1,6 +1,6 @@
 -- The theorems `there-and-back`, `whole-returned`, `back-block-by-block` and `back-by-one-call` applied to Example, so that nobody has to believe that
 -- their hypotheses can be met; a recording at N = 216; and pages, printed and read back. All is computed from the definitions, the cosine from its series.
-use mathlib.Core.Path.{_≡_, refl, sym, _∙_}
+use mathlib.Core.Path.{_≡_, refl, sym, ap, _∙_}
 use mathlib.Core.Bool.{Bool, false, cond}
 use mathlib.Core.List.{List, [], _∷_, _++_}
 use Prim.Native.Nat.{ℕ, suc, _+_, _*_, _/_, _%_, _^_, _≤_, _<_}
@@ -15,7 +15,7 @@ use Rattle.arithmetic.specs.Sums.{sum}
 use Rattle.arithmetic.specs.Lists.{at, table, joined, all, every}
 use Rattle.arithmetic.specs.TestLaws.{all-at, both-left, both-right}
 use Rattle.cosine.specs.Cosine.{top, bottom, factorial, denominator, term, signed, series, firstQuarter, reduced, toHalf, toTurn, continued, C}
-use Rattle.cosine.specs.Kernels.{lengths, tabled, W, rising, falling, K, L, s, eB, fB, eC, fC, turned, shortLengths, shortTabled}
+use Rattle.cosine.specs.Kernels.{lengths, tabled, W, shortRise, rising, falling, K, L, s, eB, fB, eC, fC, turned, shortLengths, shortTabled}
 use Rattle.transform.specs.Analysis.{window, y, S, X, direct}
 use Rattle.split.specs.ShortRoute as R
 use Rattle.transform.specs.Synthesis.{U, V′}
@@ -29,9 +29,10 @@ use Rattle.recording.specs.Recordings.{analysis as recordingOf}
 use Rattle.stream.specs.Steps.{next, hop}
 use Rattle.checks.specs.Causes.{firstCause}
 use Rattle.block_calls.specs.Analysis.{analyseCauses, analyseCode, analyseOut}
-use Rattle.checks.specs.Limits.{counted, within, tailLimit, inRange}
+use Rattle.checks.specs.Limits.{counted, within, tailLimit, inRange, areShapes}
 use Rattle.recording_calls.specs.Recordings.{recordedCauses, recordedCode, recordedOut, playedCauses, playedCode, playedOut}
-use Rattle.stream_calls.specs.Streams.{fresh, soundTail, sound, stepCauses, stepCode, step, stepOut}
+use Rattle.stream.specs.declared.Stream.{Stream}
+use Rattle.stream_calls.specs.Streams.{fresh, soundTail, sound, fits, stepCauses, stepCode, step, stepOut}
 use Rattle.text.specs.Bytes.{ascii, blank}
 use Rattle.text.specs.Number.{digitsBy, decimal, printed}
 use Rattle.text.specs.Lines.{lines}
@@ -49,14 +50,14 @@ use Rattle.demands.specs.AnswerLaws.{demand-1}
 use Rattle.demands.specs.DefinitionLaws.{demand-2}
 use Rattle.demands.specs.BackLaws.{back-by-one-call, back-block-by-block}
 use Rattle.demands.specs.UnchangedLaws.{unchanged-taken, unchanged-back}
-use Rattle.demands.specs.Demands.{SoundTail, Played-on}
+use Rattle.demands.specs.Demands.{SoundTail, Shapes, Played-on}
 use Rattle.demands.specs.Turned.{opposite}
 use Rattle.demands.specs.TurnLaws.{sign-rule}
-use Rattle.demands.specs.Example.{minus, recording, routes, knock, directly, changed, block-0, block-1, block-2, block-3, knock-1, room, small-room, five, loud, low, offer, offers, knock-offers, at-the-last, whole, hops-room, knock-whole}
+use Rattle.demands.specs.Example.{minus, recording, routes, knock, directly, changed, block-0, block-1, block-2, block-3, sharp-1, sharp-2, knock-1, room, small-room, five, loud, low, offer, offers, knock-offers, at-the-last, whole, hops-room, knock-whole}
 
 -- ---- the definitions that the tests below open, under one name
 cosines : Unit {0}
-unfolding top bottom factorial denominator term signed series firstQuarter reduced toHalf toTurn continued C lengths tabled W rising falling K L s eB fB eC fC turned
+unfolding top bottom factorial denominator term signed series firstQuarter reduced toHalf toTurn continued C lengths tabled W shortRise rising falling K L s eB fB eC fC turned
 cosines = tt
 
 analysis : Unit {0}
@@ -64,11 +65,11 @@ unfolding window y S X direct R.a R.b R.c R.e R.f R.rB R.rC R.A R.B R.G R.D R.sh
 analysis = tt
 
 synthesis : Unit {0}
-unfolding U V′ Y.fresh Y.sample Y.hop Y.newTail within tailLimit fresh soundTail sound inRange firstCause stepCauses stepCode next hop step stepOut
+unfolding U V′ Y.fresh Y.sample Y.hop Y.newTail within tailLimit fresh soundTail sound areShapes fits inRange firstCause stepCauses stepCode next hop step stepOut
 synthesis = tt
 
 example : Unit {0}
-unfolding answered run taken offers-of turns silence padded standing block recording routes knock directly changed block-0 block-1 block-2 block-3 knock-1 room small-room five loud low offers knock-offers
+unfolding answered run taken offers-of turns silence padded standing block recording routes knock directly changed block-0 block-1 block-2 block-3 sharp-1 sharp-2 knock-1 room small-room five loud low offers knock-offers
 example = tt
 
 computed : Unit {0}
@@ -84,20 +85,20 @@ codes-of : List Turn → List ℕ
 codes-of [] = []
 codes-of (t ∷ ts) = t .answer .code ∷ codes-of ts
 
-codes : codes-of (turns 12 offers) ≡ 7 ∷ 2 ∷ 0 ∷ 7 ∷ 3 ∷ 7 ∷ 0 ∷ 2 ∷ 0 ∷ 7 ∷ 7 ∷ 3 ∷ 0 ∷ 3 ∷ 7 ∷ []
+codes : codes-of (turns 12 offers) ≡ 7 ∷ 8 ∷ 2 ∷ 0 ∷ 7 ∷ 8 ∷ 3 ∷ 7 ∷ 0 ∷ 8 ∷ 2 ∷ 0 ∷ 7 ∷ 7 ∷ 3 ∷ 0 ∷ 3 ∷ 7 ∷ []
 unfolding computed codes-of
 codes = refl
 
 -- what was offered at the taken ones
 abbrev brought-offers : List Offer
-brought-offers = offer 0 block-0 room ∷ offer 1 block-1 room ∷ offer 2 block-2 room ∷ offer 3 block-3 room ∷ []
+brought-offers = offer 0 0 0 block-0 room ∷ offer 1 0 1 sharp-1 room ∷ offer 2 1 0 sharp-2 room ∷ offer 3 0 0 block-3 room ∷ []
 
 taken-offers : offers-of (taken (turns 12 offers)) ≡ brought-offers
 unfolding computed
 taken-offers = refl
 
 abbrev knock-brought : List Offer
-knock-brought = offer 0 block-0 room ∷ offer 1 knock-1 room ∷ []
+knock-brought = offer 0 0 0 block-0 room ∷ offer 1 0 0 knock-1 room ∷ []
 
 knock-taken : offers-of (taken (turns 12 knock-offers)) ≡ knock-brought
 unfolding computed
@@ -134,56 +135,56 @@ knock-recorded : Recording 12 1 knock
 knock-recorded = recorded-of 1 knock (lit≤ tt) (unfold knock in refl) knock-samples
 
 -- ---- the blocks: each of the six coefficients is within 7 of what the block's own route gives
-near : (ℕ → Route) → List ℤ → ℕ → List ℤ → Bool
-near routes x b c = all 6 (λ k. leb (natAbs (at c k -ℤ at (coefficients (routes b) 12 (block 12 x b)) k)) 7)
+near : (ℕ → Route) → List ℤ → (b left right : ℕ) → List ℤ → Bool
+near routes x b left right c = all 6 (λ k. leb (natAbs (at c k -ℤ at (coefficients (routes b) 12 left right (block 12 x b)) k)) 7)
 
-near-0 : T (near routes recording 0 block-0)
+near-0 : T (near routes recording 0 0 0 block-0)
 unfolding computed near
 near-0 = tt
 
-near-1 : T (near routes recording 1 block-1)
+near-1 : T (near routes recording 1 0 1 sharp-1)
 unfolding computed near
 near-1 = tt
 
-near-2 : T (near routes recording 2 block-2)
+near-2 : T (near routes recording 2 1 0 sharp-2)
 unfolding computed near
 near-2 = tt
 
-near-3 : T (near routes recording 3 block-3)
+near-3 : T (near routes recording 3 0 0 block-3)
 unfolding computed near
 near-3 = tt
 
-knock-near-0 : T (near directly knock 0 block-0)
+knock-near-0 : T (near directly knock 0 0 0 block-0)
 unfolding computed near
 knock-near-0 = tt
 
-knock-near-1 : T (near directly knock 1 knock-1)
+knock-near-1 : T (near directly knock 1 0 0 knock-1)
 unfolding computed near
 knock-near-1 = tt
 
-brought : (routes : ℕ → Route) (H : ℕ) (x : List ℤ) (b : ℕ) (c : List ℤ) → b ≤ H → T (offered (routes b) 12) → length c ≡ 6 → T (near routes x b c) → Brought 12 H 7 routes x b c
+brought : (routes : ℕ → Route) (H : ℕ) (x : List ℤ) (b l r : ℕ) (c : List ℤ) → b ≤ H → T (offered (routes b) 12) → length c ≡ 6 → T (near routes x b l r c) → Brought 12 H 7 routes x b l r c
 unfolding near
-brought routes H x b c p o e t =
-    let off : ℕ → ℕ = λ k. natAbs (at c k -ℤ at (coefficients (routes b) 12 (block 12 x b)) k) in
+brought routes H x b l r c p o e t =
+    let off : ℕ → ℕ = λ k. natAbs (at c k -ℤ at (coefficients (routes b) 12 l r (block 12 x b)) k) in
     record { exists = p; offers = o; long = e; near = λ k q. leb→le (off k) 7 (all-at 6 (λ k. leb (off k) 7) t k q) }
 
 -- the taken steps bring the blocks of their numbers
 numbered : Numbered 12 3 7 routes recording (turns 12 offers)
 numbered = record { each = λ j t e. go (rw taken-offers at (entry-offer e)) }
   where
-    go : {j : ℕ} {o : Offer} → Entry brought-offers j o → Brought 12 3 7 routes recording (o .number) (o .brought)
-    go first = brought routes 3 recording 0 block-0 (lit≤ tt) (unfold answers in tt) (unfold computed in refl) near-0
-    go (later first) = brought routes 3 recording 1 block-1 (lit≤ tt) (unfold answers in tt) (unfold computed in refl) near-1
-    go (later (later first)) = brought routes 3 recording 2 block-2 (lit≤ tt) (unfold answers in tt) (unfold computed in refl) near-2
-    go (later (later (later first))) = brought routes 3 recording 3 block-3 (lit≤ tt) (unfold answers in tt) (unfold computed in refl) near-3
+    go : {j : ℕ} {o : Offer} → Entry brought-offers j o → Brought 12 3 7 routes recording (o .number) (o .left) (o .right) (o .brought)
+    go first = brought routes 3 recording 0 0 0 block-0 (lit≤ tt) (unfold answers in tt) (unfold computed in refl) near-0
+    go (later first) = brought routes 3 recording 1 0 1 sharp-1 (lit≤ tt) (unfold answers in tt) (unfold computed in refl) near-1
+    go (later (later first)) = brought routes 3 recording 2 1 0 sharp-2 (lit≤ tt) (unfold answers in tt) (unfold computed in refl) near-2
+    go (later (later (later first))) = brought routes 3 recording 3 0 0 block-3 (lit≤ tt) (unfold answers in tt) (unfold computed in refl) near-3
     go (later (later (later (later e)))) = absurd (no-entry e refl)
 
 knock-numbered : Numbered 12 1 7 directly knock (turns 12 knock-offers)
 knock-numbered = record { each = λ j t e. go (rw knock-taken at (entry-offer e)) }
   where
-    go : {j : ℕ} {o : Offer} → Entry knock-brought j o → Brought 12 1 7 directly knock (o .number) (o .brought)
-    go first = brought directly 1 knock 0 block-0 (lit≤ tt) (unfold answers in tt) (unfold computed in refl) knock-near-0
-    go (later first) = brought directly 1 knock 1 knock-1 (lit≤ tt) (unfold answers in tt) (unfold computed in refl) knock-near-1
+    go : {j : ℕ} {o : Offer} → Entry knock-brought j o → Brought 12 1 7 directly knock (o .number) (o .left) (o .right) (o .brought)
+    go first = brought directly 1 knock 0 0 0 block-0 (lit≤ tt) (unfold answers in tt) (unfold computed in refl) knock-near-0
+    go (later first) = brought directly 1 knock 1 0 0 knock-1 (lit≤ tt) (unfold answers in tt) (unfold computed in refl) knock-near-1
     go (later (later e)) = absurd (no-entry e refl)
 
 -- ---- the theorem
@@ -198,8 +199,8 @@ pub knock-returned : Returned 12 7 directly knock (turns 12 knock-offers) (final
 knock-returned = there-and-back 12 twelve 1 7 directly knock knock-recorded knock-offers knock-numbered
 
 -- a list of which no recording is asked: block 3 is taken under number 0
-pub foreign : Answered 12 (turns 12 (offer 0 block-3 room ∷ offers)) (final 12 (offer 0 block-3 room ∷ offers))
-foreign = every-list 12 twelve (offer 0 block-3 room ∷ offers)
+pub foreign : Answered 12 (turns 12 (offer 0 0 1 block-3 room ∷ offers)) (final 12 (offer 0 0 1 block-3 room ∷ offers))
+foreign = every-list 12 twelve (offer 0 0 1 block-3 room ∷ offers)
 
 -- and beyond what is asked
 pub sharper : Sharper 12 7 routes recording (turns 12 offers)
@@ -256,9 +257,9 @@ six-at : (m n : ℕ) → n < 6 → at recording (m + n) ≡ at (take 6 (drop m r
 six-at m n p = sym (getD-take 6 (drop m recording) n (pos 0) p ∙ getD-drop m recording n (pos 0))
 
 -- the step that brings block 1 returns hop 0 of the recording, sample for sample
-pub hop-0 : TakenStep 1 (offer 1 block-1 room) (λ out. out ≡ pos 7 ∷ minus 8 ∷ pos 32767 ∷ minus 32768 ∷ pos 1 ∷ pos 0 ∷ [])
+pub hop-0 : TakenStep 1 (offer 1 0 1 sharp-1 room) (λ out. out ≡ pos 7 ∷ minus 8 ∷ pos 32767 ∷ minus 32768 ∷ pos 1 ∷ pos 0 ∷ [])
 unfolding recording routes
-hop-0 = taken-step 1 (offer 1 block-1 room) (λ out. out ≡ take 6 (drop 0 recording)) (later first) go
+hop-0 = taken-step 1 (offer 1 0 1 sharp-1 room) (λ out. out ≡ take 6 (drop 0 recording)) (later first) go
   where
     go : (t : Turn) → Entry (taken (turns 12 offers)) 1 t → t .output ≡ take 6 (drop 0 recording)
     go t e =
@@ -266,34 +267,75 @@ hop-0 = taken-step 1 (offer 1 block-1 room) (λ out. out ≡ take 6 (drop 0 reco
         ext-getD (pos 0) (t .output) (take 6 (drop 0 recording)) l (λ n p. returned .hop-same 1 t e 0 (returned .answered .numbers 1 t e) (lit≤ tt) refl refl n (omega arith) ∙ six-at 0 n (omega arith))
 
 -- the step that brings block 2, by the short route, returns hop 1 up to 1
-pub hop-1 : TakenStep 2 (offer 2 block-2 room) (λ out. (n : ℕ) → n < 6 → natAbs (at out n -ℤ pos 5) ≤ 1)
+pub hop-1 : TakenStep 2 (offer 2 1 0 sharp-2 room) (λ out. (n : ℕ) → n < 6 → natAbs (at out n -ℤ pos 5) ≤ 1)
 unfolding recording routes unitsOf change
-hop-1 = taken-step 2 (offer 2 block-2 room) (λ out. (n : ℕ) → n < 6 → natAbs (at out n -ℤ pos 5) ≤ 1) (later (later first))
+hop-1 = taken-step 2 (offer 2 1 0 sharp-2 room) (λ out. (n : ℕ) → n < 6 → natAbs (at out n -ℤ pos 5) ≤ 1) (later (later first))
     (λ t e n p. rw (six-at 6 n p, getD-replicate 6 n (pos 5) (pos 0) p) at (returned .hop-near 2 t e 1 (returned .answered .numbers 2 t e) n p))
 
+-- the stream after the list ends with a long joint, as the last block that was taken, and after a list of which nothing is taken it does too
+pub ends-long : final 12 offers .shape ≡ 0
+ends-long =
+    let (t, e, f) = entry-turn (taken (turns 12 offers)) {i = 3} {o = offer 3 0 0 block-3 room} (rw taken-offers (later (later (later first)))) in
+    returned .answered .final-shape 3 t e all-taken ∙ ap (λ (o : Offer). o .right) f
+
+pub none-taken : final 12 (offer 1 0 1 sharp-1 room ∷ []) .shape ≡ 0
+none-taken = every-list 12 twelve (offer 1 0 1 sharp-1 room ∷ []) .final-none (unfold computed in refl)
+
 -- ---- the last number is taken once; then every block is 7
-pub last-taken : stepCode at-the-last 4294967295 block-0 room ≡ 0
+pub last-taken : stepCode at-the-last 4294967295 1 0 block-0 room ≡ 0
 unfolding computed at-the-last
 last-taken = refl
 
-pub none-behind : (number : ℕ) → number < 2 ^ 32 → (x out : List ℤ) → stepCode (step at-the-last 4294967295 block-0 room .stream) number x out ≡ 7
-none-behind number p x out = demand-1 .last-number at-the-last block-0 room last-taken number p x out
+pub none-behind : (number l r : ℕ) → number < 2 ^ 32 → (x out : List ℤ) → stepCode (step at-the-last 4294967295 1 0 block-0 room .stream) number l r x out ≡ 7
+none-behind number l r p x out = demand-1 .last-number at-the-last 1 0 block-0 room last-taken number l r p x out
 
-pub last-counted : step at-the-last 4294967295 block-0 room .stream .expected ≡ 2 ^ 32
+-- it ends with the right shape of that block
+pub last-shape : step at-the-last 4294967295 1 0 block-0 room .stream .shape ≡ 0
+last-shape = demand-2 .stepped at-the-last 4294967295 1 0 block-0 room last-taken .remembered
+
+pub last-counted : step at-the-last 4294967295 1 0 block-0 room .stream .expected ≡ 2 ^ 32
 unfolding at-the-last
-last-counted = demand-2 .stepped at-the-last 4294967295 block-0 room last-taken .counted
+last-counted = demand-2 .stepped at-the-last 4294967295 1 0 block-0 room last-taken .counted
+
+-- a forged shape of 2 takes no block
+pub forged : Stream
+forged = record { n = 12; expected = 4294967295; shape = 2; tail = replicate storage (pos 0) }
+
+forged-tail : SoundTail forged
+unfolding forged tailLimit
+forged-tail = record { each = λ n p. rw (getD-replicate storage n (pos 0) (pos 0) (omega arith)) (omega arith) }
+
+pub forged-shape : (l r : ℕ) (x out : List ℤ) → stepCode forged 4294967295 l r x out ≡ 8
+unfolding forged
+forged-shape l r x out = demand-1 .stepped forged 4294967295 l r x out .eight-forged twelve forged-tail refl (lit< tt)
 
 -- a state of zeros whose expected number is -1 takes no block
 pub below-zero : List ℤ
-below-zero = pos 12 ∷ minus 1 ∷ replicate storage (pos 0)
+below-zero = pos 12 ∷ minus 1 ∷ pos 0 ∷ replicate storage (pos 0)
 
 below-zero-tail : SoundTail (streamIn below-zero)
 unfolding streamIn entryNumber below-zero tailLimit
 below-zero-tail = record { each = λ n p. rw (getD-replicate storage n (pos 0) (pos 0) (omega arith)) (omega arith) }
 
-pub none-expected : (number : ℕ) → number < 2 ^ 32 → (x out : List ℤ) → stateCode below-zero number x out ≡ 7
-none-expected number p x out =
-    demand-1 .state-stepped below-zero number x out .seven-negative (unfold below-zero in refl) (unfold below-zero in unfold streamIn in unfold entryNumber in twelve) below-zero-tail p
+-- and one whose shape is -1 or 2 takes none either
+pub misshapen : ℤ → List ℤ
+misshapen z = pos 12 ∷ pos 3 ∷ z ∷ replicate storage (pos 0)
+
+misshapen-tail : (z : ℤ) → SoundTail (streamIn (misshapen z))
+unfolding streamIn entryNumber misshapen tailLimit
+misshapen-tail z = record { each = λ n p. rw (getD-replicate storage n (pos 0) (pos 0) (omega arith)) (omega arith) }
+
+pub no-shape-below : (l r : ℕ) (x out : List ℤ) → stateCode (misshapen (minus 1)) 3 l r x out ≡ 8
+unfolding streamIn entryNumber misshapen
+no-shape-below l r x out = demand-1 .state-stepped (misshapen (minus 1)) 3 l r x out .eight-negative refl twelve (misshapen-tail (minus 1)) refl (record { lt = tt })
+
+pub no-shape-above : (l r : ℕ) (x out : List ℤ) → stateCode (misshapen (pos 2)) 3 l r x out ≡ 8
+unfolding streamIn entryNumber misshapen
+no-shape-above l r x out = demand-1 .state-stepped (misshapen (pos 2)) 3 l r x out .eight-large refl twelve (misshapen-tail (pos 2)) refl (record { lt = tt })
+
+pub none-expected : (number l r : ℕ) → number < 2 ^ 32 → (x out : List ℤ) → stateCode below-zero number l r x out ≡ 7
+none-expected number l r p x out =
+    demand-1 .state-stepped below-zero number l r x out .seven-negative (unfold below-zero in refl) (unfold below-zero in unfold streamIn in unfold entryNumber in twelve) below-zero-tail p
     (unfold below-zero in record { lt = tt })
 
 -- ---- the calls over whole recordings: four blocks, analysed one by one, block 2 by the short route
@@ -306,29 +348,42 @@ pub played-on : Played-on 12 3 whole hops-room (λ b. room)
 played-on = demand-2 .played 12 3 whole hops-room played (λ b. room) (λ b p. unfold room in refl)
 
 abbrev off : ℕ → ℕ → ℕ
-off b k = natAbs (at whole (b * 6 + k) -ℤ at (analyseOut (routes b) 12 (block 12 recording b) room) k)
+off b k = natAbs (at whole (b * 6 + k) -ℤ at (analyseOut (routes b) 12 0 0 (block 12 recording b) room) k)
 
 changes : T (all 4 (λ b. all 6 (λ k. leb (off b k) 7)))
 unfolding answers
 changes = tt
 
-analysed : T (all 4 (λ b. eqb (analyseCode (routes b) 12 (block 12 recording b) room) 0))
+analysed : T (all 4 (λ b. eqb (analyseCode (routes b) 12 0 0 (block 12 recording b) room) 0))
 unfolding answers
 analysed = tt
 
 by-blocks : BlockByBlock 12 3 7 routes recording whole
 by-blocks = record {
   buffer = λ b. room;
-  taken = λ b p. eqb→eq (analyseCode (routes b) 12 (block 12 recording b) room) 0
-      (all-at 4 (λ b. eqb (analyseCode (routes b) 12 (block 12 recording b) room) 0) analysed b (omega arith));
+  taken = λ b p. eqb→eq (analyseCode (routes b) 12 0 0 (block 12 recording b) room) 0
+      (all-at 4 (λ b. eqb (analyseCode (routes b) 12 0 0 (block 12 recording b) room) 0) analysed b (omega arith));
   near = λ b p k q. leb→le (off b k) 7 (all-at 6 (λ k. leb (off b k) 7) (all-at 4 (λ b. all 6 (λ k. leb (off b k) 7)) changes b (omega arith)) k q);
 }
 
 pub back : Back 12 3 7 routes recording (playedOut 12 3 whole hops-room)
 back = back-block-by-block 12 3 7 routes recording whole hops-room recorded by-blocks played .0
 
+-- ---- the short halves at N = 12, in document 02's numbers; a shape of 2 is 8, whatever the buffers' lengths are
+pub short-half : table 6 (rising 1 12) ≡ pos 0 ∷ pos 0 ∷ pos 25681450 ∷ pos 62000506 ∷ pos 67108864 ∷ pos 67108864 ∷ []
+unfolding computed
+short-half = refl
+
+pub short-mirror : table 6 (falling 1 12) ≡ pos 67108864 ∷ pos 67108864 ∷ pos 62000506 ∷ pos 25681450 ∷ pos 0 ∷ pos 0 ∷ []
+unfolding computed
+short-mirror = refl
+
+pub shape-of-2 : (x out : List ℤ) → analyseCode Direct 12 0 2 x out ≡ 8
+unfolding offered
+shape-of-2 x out = demand-1 .analyse Direct 12 0 2 x out .eight twelve (λ (h : Shapes 0 2). omega (arith, h .right-is))
+
 -- ---- at 108 and 216 the short route is refused with 1, whatever the buffers' lengths are, and the direct one is taken
-pub short-at-108 : (x out : List ℤ) → analyseCode Short 108 x out ≡ 1
+pub short-at-108 : (x out : List ℤ) → analyseCode Short 108 0 1 x out ≡ 1
 unfolding answers
 short-at-108 x out = refl
 
@@ -336,7 +391,7 @@ pub short-at-216 : (H : ℕ) (x out : List ℤ) → recordedCode Short 216 H x o
 unfolding answers
 short-at-216 H x out = refl
 
-pub direct-at-216 : analyseCode Direct 216 (table 216 (λ i. pos 0)) (table 108 (λ i. pos 0)) ≡ 0
+pub direct-at-216 : analyseCode Direct 216 1 0 (table 216 (λ i. pos 0)) (table 108 (λ i. pos 0)) ≡ 0
 unfolding answers
 direct-at-216 = refl
 
@@ -370,16 +425,16 @@ ramp-turned = sign-rule .recorded Direct 216 1 ramp (replicate 216 (pos 9)) (rep
 pub twelve-samples : List ℤ
 twelve-samples = pos 7 ∷ minus 8 ∷ pos 32767 ∷ minus 32767 ∷ pos 1 ∷ pos 0 ∷ pos 5 ∷ pos 5 ∷ minus 5 ∷ pos 5 ∷ minus 900 ∷ pos 5 ∷ []
 
-short-taken : analyseCode Short 12 twelve-samples room ≡ 0
+short-taken : analyseCode Short 12 1 1 twelve-samples room ≡ 0
 unfolding answers twelve-samples
 short-taken = refl
 
-short-turned-taken : analyseCode Short 12 (opposite twelve-samples) room ≡ 0
+short-turned-taken : analyseCode Short 12 1 1 (opposite twelve-samples) room ≡ 0
 unfolding answers twelve-samples opposite
 short-turned-taken = refl
 
-pub short-turned : analyseOut Short 12 (opposite twelve-samples) room ≡ opposite (analyseOut Short 12 twelve-samples room)
-short-turned = sign-rule .analysed Short 12 twelve-samples room room short-taken short-turned-taken
+pub short-turned : analyseOut Short 12 1 1 (opposite twelve-samples) room ≡ opposite (analyseOut Short 12 1 1 twelve-samples room)
+short-turned = sign-rule .analysed Short 12 1 1 twelve-samples room room short-taken short-turned-taken
 
 -- ---- a single hop at N = 12, analysed by one call
 knock-played : playedCode 12 1 knock-whole room ≡ 0

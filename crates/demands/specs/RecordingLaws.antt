@@ -20,10 +20,10 @@ use Rattle.split.specs.ShortRoute.{shortX, short}
 use Rattle.transform.specs.Synthesis.{V′}
 use Rattle.transform.specs.SizeLaws.{y-size}
 use Rattle.split.specs.ShortLaws.{within-7}
-use Rattle.stream.specs.StepLaws.{rising-size, falling-size}
+use Rattle.cosine.specs.KernelLaws.{rising-size, falling-size}
 use Rattle.reconstruction.specs.Neighbours.{Neighbours}
 use Rattle.reconstruction.specs.ReturnLaws.{by-asked}
-use Rattle.reconstruction.specs.DistanceLaws.{sine-neighbours, returned-each, returned-same}
+use Rattle.reconstruction.specs.DistanceLaws.{joint-neighbours, returned-each, returned-same}
 use Rattle.analysis.specs.declared.Route.{Route}
 use Rattle.analysis.specs.declared.Route.the-variants.{Direct, Short}
 use Rattle.analysis.specs.Analysis.{offered, spectrum, coefficients}
@@ -58,30 +58,30 @@ pub change-direct : (Q : ℕ) (r r′ : Route) → r ≡ Direct → r′ ≡ Dir
 unfolding provedChange provedUnits
 change-direct Q r r′ e f = rw (e, f) (omega arith)
 
--- the block x, windowed
-abbrev pub windowed : ℕ → List ℤ → ℕ → ℤ
-windowed N x = y N (rising N) (falling N) x
+-- the block x, windowed by joints of the shapes l and r
+abbrev pub windowed : (N l r : ℕ) → List ℤ → ℕ → ℤ
+windowed N l r x = y N (rising l N) (falling r N) x
 
 -- ---- sample i of a recording of H hops: its hop, and its place there
 pub hop-of : (N : ℕ) → T (tabled N) → (H i : ℕ) → i < H * (N / 2) → Place (N / 2) H i
 hop-of N t H i p = place-of (N / 2) H i (omega (arith, length-of N t .twelve, length-of N t .some)) p
 
 -- ---- the coefficients by a route, against the direct ones
-module _ (N : ℕ) (x : List ℤ) (k : ℕ) (p : k < N / 2) where
-  pub by-direct : at (coefficients Direct N x) k ≡ X N (windowed N x) k
+module _ (N l r : ℕ) (x : List ℤ) (k : ℕ) (p : k < N / 2) where
+  pub by-direct : at (coefficients Direct N l r x) k ≡ X N (windowed N l r x) k
   unfolding coefficients spectrum direct
-  by-direct = getD-table (X N (windowed N x)) (pos 0) (N / 2) k p
+  by-direct = getD-table (X N (windowed N l r x)) (pos 0) (N / 2) k p
 
-  pub by-short : at (coefficients Short N x) k ≡ shortX N (windowed N x) k
+  pub by-short : at (coefficients Short N l r x) k ≡ shortX N (windowed N l r x) k
   unfolding coefficients spectrum short
-  by-short = getD-table (shortX N (windowed N x)) (pos 0) (N / 2) k p
+  by-short = getD-table (shortX N (windowed N l r x)) (pos 0) (N / 2) k p
 
-pub near-direct : (N : ℕ) (x : List ℤ) → ((n : ℕ) → n < N → natAbs (windowed N x n) ≤ 2 ^ 23) →
-    (Q : ℕ) (route : Route) → T (offered route N) → (c : ℤ) (k : ℕ) → k < N / 2 → natAbs (c -ℤ at (coefficients route N x) k) ≤ Q → natAbs (c -ℤ X N (windowed N x) k) ≤ Q + provedUnits route
+pub near-direct : (N l r : ℕ) (x : List ℤ) → ((n : ℕ) → n < N → natAbs (windowed N l r x n) ≤ 2 ^ 23) →
+    (Q : ℕ) (route : Route) → T (offered route N) → (c : ℤ) (k : ℕ) → k < N / 2 → natAbs (c -ℤ at (coefficients route N l r x) k) ≤ Q → natAbs (c -ℤ X N (windowed N l r x) k) ≤ Q + provedUnits route
 unfolding provedUnits offered
-near-direct N x y≤ Q Direct o c k p h = omega (arith, rw (by-direct N x k p) at h)
-near-direct N x y≤ Q Short o c k p h =
-    abs-via c (shortX N (windowed N x) k) (X N (windowed N x) k) (rw (by-short N x k p) at h) (within-7 N o (windowed N x) y≤ k p)
+near-direct N l r x y≤ Q Direct o c k p h = omega (arith, rw (by-direct N l r x k p) at h)
+near-direct N l r x y≤ Q Short o c k p h =
+    abs-via c (shortX N (windowed N l r x) k) (X N (windowed N l r x) k) (rw (by-short N l r x k p) at h) (within-7 N o (windowed N l r x) y≤ k p)
 
 module _ (N : ℕ) (t : T (tabled N)) (H : ℕ) (x : List ℤ) (rec : Recording N H x) where
   len : Part N
@@ -100,12 +100,12 @@ module _ (N : ℕ) (t : T (tabled N)) (H : ℕ) (x : List ℤ) (rec : Recording 
       let e : suc b * (N / 2) + n ≡ N / 2 + (b * (N / 2) + n) = omega (arith, suc-mul b (N / 2)) in
       block-at N x (suc b) n (omega arith) ∙ ap (at (padded N x)) e ∙ padded-at N x (b * (N / 2) + n) (omega (arith, rec .long, mul-le-mul-right (N / 2) p, suc-mul b (N / 2)))
 
-  pub windowed-size : (b : ℕ) (n : ℕ) → n < N → natAbs (windowed N (block N x b) n) ≤ 2 ^ 23
-  windowed-size b = y-size N (rising N) (falling N) len (λ n q. rising-size N n) (λ n q. falling-size N n) (block N x b) (λ n q. sample-abs (block-sample b n q))
+  pub windowed-size : (b l r : ℕ) (n : ℕ) → n < N → natAbs (windowed N l r (block N x b) n) ≤ 2 ^ 23
+  windowed-size b l r = y-size N (rising l N) (falling r N) len (λ n q. rising-size l N n) (λ n q. falling-size r N n) (block N x b) (λ n q. sample-abs (block-sample b n q))
 
-  -- blocks b and b + 1
-  pub neighbours : (b : ℕ) → Neighbours N (rising N) (falling N) (rising N) (falling N) (block N x b) (block N x (suc b))
-  neighbours b = sine-neighbours N t (block N x b) (block N x (suc b)) (block-sample b) (block-sample (suc b)) shared
+  -- blocks b and b + 1, which meet in a joint of the shape j
+  pub neighbours : (b l j r : ℕ) → Neighbours N (rising l N) (falling j N) (rising j N) (falling r N) (block N x b) (block N x (suc b))
+  neighbours b l j r = joint-neighbours N l j r t (block N x b) (block N x (suc b)) (block-sample b) (block-sample (suc b)) shared
     where
       shared : (n : ℕ) → n < N / 2 → at (block N x b) (N / 2 + n) ≡ at (block N x (suc b)) n
       shared n q =
@@ -113,22 +113,22 @@ module _ (N : ℕ) (t : T (tabled N)) (H : ℕ) (x : List ℤ) (rec : Recording 
           rw (block-at N x b (N / 2 + n) (omega (arith, len .four)), block-at N x (suc b) n (omega (arith, len .four)), e)
 
   -- ---- the hop that they share
-  module _ (Q : ℕ) (routes : ℕ → Route) (b : ℕ) (c₁ c₂ : List ℤ) (brought₁ : Brought N H Q routes x b c₁) (brought₂ : Brought N H Q routes x (suc b) c₂) where
+  module _ (Q : ℕ) (routes : ℕ → Route) (b l j r : ℕ) (c₁ c₂ : List ℤ) (brought₁ : Brought N H Q routes x b l j c₁) (brought₂ : Brought N H Q routes x (suc b) j r c₂) where
     abbrev Q′ : ℕ
     Q′ = provedChange Q (routes b) (routes (suc b))
 
     -- the sample that comes back at place n
     abbrev back : ℕ → ℤ
-    back n = clamp (rnd (V′ N (rising N) (falling N) c₁ (N / 2 + n) +ℤ V′ N (rising N) (falling N) c₂ n) (N * 2 ^ 30))
+    back n = clamp (rnd (V′ N (rising l N) (falling j N) c₁ (N / 2 + n) +ℤ V′ N (rising j N) (falling r N) c₂ n) (N * 2 ^ 30))
 
-    nb : Neighbours N (rising N) (falling N) (rising N) (falling N) (block N x b) (block N x (suc b))
-    nb = neighbours b
+    nb : Neighbours N (rising l N) (falling j N) (rising j N) (falling r N) (block N x b) (block N x (suc b))
+    nb = neighbours b l j r
 
-    near₁ : (k : ℕ) → k < N / 2 → natAbs (at c₁ k -ℤ X N (windowed N (block N x b)) k) ≤ Q′
-    near₁ k p = le-trans (near-direct N (block N x b) (windowed-size b) Q (routes b) (brought₁ .offers) (at c₁ k) k p (brought₁ .near k p)) (change-first Q (routes b) (routes (suc b)))
+    near₁ : (k : ℕ) → k < N / 2 → natAbs (at c₁ k -ℤ X N (windowed N l j (block N x b)) k) ≤ Q′
+    near₁ k p = le-trans (near-direct N l j (block N x b) (windowed-size b l j) Q (routes b) (brought₁ .offers) (at c₁ k) k p (brought₁ .near k p)) (change-first Q (routes b) (routes (suc b)))
 
-    near₂ : (k : ℕ) → k < N / 2 → natAbs (at c₂ k -ℤ X N (windowed N (block N x (suc b))) k) ≤ Q′
-    near₂ k p = le-trans (near-direct N (block N x (suc b)) (windowed-size (suc b)) Q (routes (suc b)) (brought₂ .offers) (at c₂ k) k p (brought₂ .near k p)) (change-second Q (routes b) (routes (suc b)))
+    near₂ : (k : ℕ) → k < N / 2 → natAbs (at c₂ k -ℤ X N (windowed N j r (block N x (suc b))) k) ≤ Q′
+    near₂ k p = le-trans (near-direct N j r (block N x (suc b)) (windowed-size (suc b) j r) Q (routes (suc b)) (brought₂ .offers) (at c₂ k) k p (brought₂ .near k p)) (change-second Q (routes b) (routes (suc b)))
 
     pub back-near : (n : ℕ) → n < N / 2 → natAbs (back n -ℤ at x (b * (N / 2) + n)) ≤ (3 * Q′ + 36) / 64
     back-near n p = rw (← (block-hop b n (brought₂ .exists) p)) (returned-each N t nb Q′ c₁ c₂ near₁ near₂ n p)

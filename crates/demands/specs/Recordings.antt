@@ -20,11 +20,11 @@ pub record ByOneCall (N H Q : ℕ) (route : Route) (x X : List ℤ) : Type 0 whe
   pub taken : recordedCode route N H x buffer ≡ 0
   pub near : (i : ℕ) → i < (H + 1) * (N / 2) → natAbs (at X i -ℤ at (recordedOut route N H x buffer) i) ≤ Q
 
--- analysed block by block, each by its own route into its own buffer
+-- analysed block by block, each by its own route, with long joints, into its own buffer
 pub record BlockByBlock (N H Q : ℕ) (routes : ℕ → Route) (x X : List ℤ) : Type 0 where
   pub buffer : ℕ → List ℤ
-  pub taken : (b : ℕ) → b ≤ H → analyseCode (routes b) N (block N x b) (buffer b) ≡ 0
-  pub near : (b : ℕ) → b ≤ H → (k : ℕ) → k < N / 2 → natAbs (at X (b * (N / 2) + k) -ℤ at (analyseOut (routes b) N (block N x b) (buffer b)) k) ≤ Q
+  pub taken : (b : ℕ) → b ≤ H → analyseCode (routes b) N 0 0 (block N x b) (buffer b) ≡ 0
+  pub near : (b : ℕ) → b ≤ H → (k : ℕ) → k < N / 2 → natAbs (at X (b * (N / 2) + k) -ℤ at (analyseOut (routes b) N 0 0 (block N x b) (buffer b)) k) ≤ Q
 
 -- ---- the claim: `out` is what a taken synthesis left. `inner` gives all of it, and each of its H × M samples is held against the recording's sample
 -- at the same place, i, which blocks i / M and i / M + 1 cover
@@ -39,10 +39,10 @@ pub record SharperBack (N H Q : ℕ) (routes : ℕ → Route) (x out : List ℤ)
   pub near : (i : ℕ) → i < H * (N / 2) → natAbs (at out i -ℤ at x i) ≤ (3 * provedChange Q (routes (i / (N / 2))) (routes (suc (i / (N / 2)))) + 36) / 64
   pub same : Q ≤ 9 → (i : ℕ) → i < H * (N / 2) → routes (i / (N / 2)) ≡ Direct → routes (suc (i / (N / 2))) ≡ Direct → at out i ≡ at x i
 
--- ---- the steps that a synthesis stands for: block after block of X, each under its number, from block b on, count of them, each with a buffer of its own
+-- ---- the steps that a synthesis stands for: block after block of X, each under its number and with long joints, from block b on, count of them, each with a buffer of its own
 unfoldable pub offering : ℕ → List ℤ → (ℕ → List ℤ) → ℕ → ℕ → List Offer
 offering N X buffers b zero = []
-offering N X buffers b (suc count) = record { number = b; brought = part N X b; buffer = buffers b } ∷ offering N X buffers (suc b) count
+offering N X buffers b (suc count) = record { number = b; left = 0; right = 0; brought = part N X b; buffer = buffers b } ∷ offering N X buffers (suc b) count
 
 -- what the buffers of the turns hold, one after the other
 unfoldable pub outputs : List Turn → List ℤ

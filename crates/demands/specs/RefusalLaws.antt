@@ -13,13 +13,13 @@ use Rattle.demands.specs.StepLaws as L
 use Rattle.demands.specs.RunLaws.{code, run-taken, run-refused, after-refused}
 
 -- ---- the next step: its answer and its buffer are those of the stream that the refused step was handed
-pub next-answer : (s : Stream) (number : ℕ) (x out : List ℤ) → stepCode s number x out ≢ 0 →
-    (then : ℕ) (y room : List ℤ) → step (step s number x out .stream) then y room ≡ step s then y room
-next-answer s number x out r then y room = rw (L.refused-stream s number x out r)
+pub next-answer : (s : Stream) (number l r : ℕ) (x out : List ℤ) → stepCode s number l r x out ≢ 0 →
+    (then l′ r′ : ℕ) (y room : List ℤ) → step (step s number l r x out .stream) then l′ r′ y room ≡ step s then l′ r′ y room
+next-answer s number l r x out e then l′ r′ y room = rw (L.refused-stream s number l r x out e)
 
-pub next-buffer : (s : Stream) (number : ℕ) (x out : List ℤ) → stepCode s number x out ≢ 0 →
-    (then : ℕ) (y room : List ℤ) → stepOut (step s number x out .stream) then y room ≡ stepOut s then y room
-next-buffer s number x out r then y room = rw (L.refused-stream s number x out r)
+pub next-buffer : (s : Stream) (number l r : ℕ) (x out : List ℤ) → stepCode s number l r x out ≢ 0 →
+    (then l′ r′ : ℕ) (y room : List ℤ) → stepOut (step s number l r x out .stream) then l′ r′ y room ≡ stepOut s then l′ r′ y room
+next-buffer s number l r x out e then l′ r′ y room = rw (L.refused-stream s number l r x out e)
 
 -- ---- a list without one refused step: the taken ones, and the stream after the list, are the same
 module _ (o : Offer) (rest : List Offer) where

@@ -16,7 +16,7 @@ use Rattle.demands.specs.StepLaws as L
 -- ---- of one step
 module _ (s : Stream) (o : Offer) where
   abbrev pub code : ℕ
-  code = stepCode s (o .number) (o .brought) (o .buffer)
+  code = stepCode s (o .number) (o .left) (o .right) (o .brought) (o .buffer)
 
   pub answered-code : answered s o .answer .code ≡ code
   unfolding answered step
@@ -24,11 +24,11 @@ module _ (s : Stream) (o : Offer) where
 
   pub refused-stream : code ≢ 0 → answered s o .answer .stream ≡ s
   unfolding answered
-  refused-stream r = L.refused-stream s (o .number) (o .brought) (o .buffer) r
+  refused-stream r = L.refused-stream s (o .number) (o .left) (o .right) (o .brought) (o .buffer) r
 
   pub refused-buffer : code ≢ 0 → answered s o .output ≡ o .buffer
   unfolding answered
-  refused-buffer r = L.refused-buffer s (o .number) (o .brought) (o .buffer) r
+  refused-buffer r = L.refused-buffer s (o .number) (o .left) (o .right) (o .brought) (o .buffer) r
 
 -- ---- of a list
 pub taken-yes : (t : Turn) (ts : List Turn) → t .answer .code ≡ 0 → taken (t ∷ ts) ≡ t ∷ taken ts

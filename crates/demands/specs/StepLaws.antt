@@ -39,44 +39,44 @@ pub code-other : {A : Type 0} (c : ℕ) (x y : A) → c ≢ 0 → cond (eqb c 0)
 code-other zero x y n = absurd (n refl)
 code-other (suc c) x y n = rw (eqb·suc-zero c)
 
-module _ (s : Stream) (number : ℕ) (x out : List ℤ) where
+module _ (s : Stream) (number l r : ℕ) (x out : List ℤ) where
   -- 4 only for the stream's own sake
-  pub sound-four : T (sound s) → stepCode s number x out ≢ 4
+  pub sound-four : T (sound s) → stepCode s number l r x out ≢ 4
   unfolding stepCode stepCauses spared
-  sound-four t = never 4 (stepCauses s number x out) (λ z. omega arith) (let e : sound s ≡ true = is-true t in rw e tt)
+  sound-four t = never 4 (stepCauses s number l r x out) (λ z. omega arith) (let e : sound s ≡ true = is-true t in rw e tt)
 
   -- 7 for the number's sake, and for nothing else
-  pub sound-seven : T (sound s) → number ≢ s .expected → stepCode s number x out ≡ 7
+  pub sound-seven : T (sound s) → number ≢ s .expected → stepCode s number l r x out ≡ 7
   unfolding stepCode stepCauses
-  sound-seven t n = first-is (stepCauses s number x out) (pass (is-true t) (differs n))
+  sound-seven t n = first-is (stepCauses s number l r x out) (pass (is-true t) (differs n))
 
-  pub only-seven : stepCode s number x out ≡ 7 → number ≢ s .expected
+  pub only-seven : stepCode s number l r x out ≡ 7 → number ≢ s .expected
   unfolding stepCode stepCauses spared
-  only-seven e same = never 7 (stepCauses s number x out) (λ z. omega arith) (rw (eq-eqb number (s .expected) same) tt) e
+  only-seven e same = never 7 (stepCauses s number l r x out) (λ z. omega arith) (rw (eq-eqb number (s .expected) same) tt) e
 
   -- a refused step returns the stream handed in, and leaves the buffer
-  module _ (refused : stepCode s number x out ≢ 0) where
-    pub refused-stream : step s number x out .stream ≡ s
+  module _ (refused : stepCode s number l r x out ≢ 0) where
+    pub refused-stream : step s number l r x out .stream ≡ s
     unfolding step
-    refused-stream = code-other (stepCode s number x out) (next s x) s refused
+    refused-stream = code-other (stepCode s number l r x out) (next s l r x) s refused
 
-    pub refused-buffer : stepOut s number x out ≡ out
+    pub refused-buffer : stepOut s number l r x out ≡ out
     unfolding stepOut
-    refused-buffer = code-other (stepCode s number x out) (hop s x) out refused
+    refused-buffer = code-other (stepCode s number l r x out) (hop s l r x) out refused
 
   -- a taken one
-  module _ (taken : stepCode s number x out ≡ 0) where
-    pub taken-stream : step s number x out .stream ≡ next s x
+  module _ (taken : stepCode s number l r x out ≡ 0) where
+    pub taken-stream : step s number l r x out .stream ≡ next s l r x
     unfolding step
-    taken-stream = code-zero (stepCode s number x out) (next s x) s taken
+    taken-stream = code-zero (stepCode s number l r x out) (next s l r x) s taken
 
-    pub taken-buffer : stepOut s number x out ≡ hop s x
+    pub taken-buffer : stepOut s number l r x out ≡ hop s l r x
     unfolding stepOut
-    taken-buffer = code-zero (stepCode s number x out) (hop s x) out taken
+    taken-buffer = code-zero (stepCode s number l r x out) (hop s l r x) out taken
 
     passed : T (inRange (s .n / 2) x)
     unfolding stepCode stepCauses spared Passed
-    passed = C.passed (stepCauses s number x out) tt taken .1 .1 .1 .1 .0
+    passed = C.passed (stepCauses s number l r x out) tt taken .1 .1 .1 .1 .1 .0
 
     pub taken-size : (k : ℕ) → k < s .n / 2 → natAbs (at x k) ≤ coefficientLimit
     unfolding inRange
@@ -90,16 +90,17 @@ sound-of s t h =
     (all-make (s .n / 2) (λ n. within (at (s .tail) n) (tailLimit (s .n / 2))) (λ n p. abs-within (at (s .tail) n) (tailLimit (s .n / 2)) (h n p)))
 
 -- a taken step leaves a sound stream
-pub taken-sound : (s : Stream) (number : ℕ) (x out : List ℤ) → stepCode s number x out ≡ 0 → T (sound (next s x))
-taken-sound s number x out z =
-    let t = step-tabled s number x out z in
-    let n = next-n (s .n) s refl x in
-    sound-of (next s x) (rw n t) (rw n (next-limited (s .n) t s refl x (taken-size s number x out z)))
+pub taken-sound : (s : Stream) (number l r : ℕ) (x out : List ℤ) → stepCode s number l r x out ≡ 0 → T (sound (next s l r x))
+taken-sound s number l r x out z =
+    let t = step-tabled s number l r x out z in
+    let n = next-n (s .n) s refl l r x in
+    sound-of (next s l r x) (rw n t) (rw n (next-limited (s .n) t s refl l r x (taken-size s number l r x out z)))
 
 -- so after the last number every block is 7
-pub last-number : (s : Stream) (x out : List ℤ) → stepCode s 4294967295 x out ≡ 0 → (number : ℕ) → number < 2 ^ 32 → (y room : List ℤ) →
-    stepCode (step s 4294967295 x out .stream) number y room ≡ 7
-last-number s x out z number p y room =
-    let e = step-number s 4294967295 x out z in
-    rw (taken-stream s 4294967295 x out z)
-    (sound-seven (next s x) number y room (taken-sound s 4294967295 x out z) (λ (f : number ≡ next s x .expected). omega (arith, e, f, p, next-expected (s .n) s refl x)))
+pub last-number : (s : Stream) (l r : ℕ) (x out : List ℤ) → stepCode s 4294967295 l r x out ≡ 0 → (number l′ r′ : ℕ) → number < 2 ^ 32 → (y room : List ℤ) →
+    stepCode (step s 4294967295 l r x out .stream) number l′ r′ y room ≡ 7
+last-number s l r x out z number l′ r′ p y room =
+    let e = step-number s 4294967295 l r x out z in
+    rw (taken-stream s 4294967295 l r x out z)
+    (sound-seven (next s l r x) number l′ r′ y room (taken-sound s 4294967295 l r x out z)
+    (λ (f : number ≡ next s l r x .expected). omega (arith, e, f, p, next-expected (s .n) s refl l r x)))

@@ -1,4 +1,4 @@
--- Demand 3 for a list of synthesis steps on one stream: definitions. Document 01, 'Sound there and back', and document 02, P1 and P6. That they hold together is
+-- Demand 3 for a list of synthesis steps on one stream: definitions. Document 01, 'Sound there and back', and document 02, P1, P6 and P7. That they hold together is
 -- `there-and-back` of ThereAndBackLaws. `fresh`, `step`, `stepOut` and `coefficients` are those that the public calls' contracts cite.
 use mathlib.Core.Path.{_≡_}
 use mathlib.Core.Logic.{_≢_}
@@ -21,9 +21,12 @@ use Rattle.recording.specs.Recordings.{block}
 use Rattle.stream_calls.specs.Streams.{fresh, step, stepOut}
 
 -- ---- the list of steps
--- what one call of `step` is handed besides the stream: a block's number (a call's has 32 bits, which nothing here needs), coefficients and a buffer, of any lengths
+-- what one call of `step` is handed besides the stream: a block's number (a call's has 32 bits, which nothing here needs), the shapes of its left and its right
+-- joint, coefficients and a buffer, of any lengths
 pub record Offer : Type 0 where
   pub number : ℕ
+  pub left : ℕ
+  pub right : ℕ
   pub brought : List ℤ
   pub buffer : List ℤ
 
@@ -38,8 +41,8 @@ unfoldable pub answered : Stream → Offer → Turn
 answered s o = record {
   handed = s;
   offer = o;
-  answer = step s (o .number) (o .brought) (o .buffer);
-  output = stepOut s (o .number) (o .brought) (o .buffer);
+  answer = step s (o .number) (o .left) (o .right) (o .brought) (o .buffer);
+  output = stepOut s (o .number) (o .left) (o .right) (o .brought) (o .buffer);
 }
 
 -- every step is handed the stream that the step before gave back, taken or refused
@@ -81,17 +84,17 @@ pub record Recording (N H : ℕ) (x : List ℤ) : Type 0 where
   pub long : length x ≡ H * (N / 2)
   pub sample : (i : ℕ) → i < length x → Sample (at x i)
 
--- c are the M coefficients of block b of x, analysed by its own route, which is offered at N, each changed by a whole number from -Q to Q. That they are in range isn't
--- asked: a step that takes them says so
-pub record Brought (N H Q : ℕ) (routes : ℕ → Route) (x : List ℤ) (b : ℕ) (c : List ℤ) : Type 0 where
+-- c are the M coefficients of block b of x, analysed by its own route, which is offered at N, with joints of the shapes left and right, each changed by a whole
+-- number from -Q to Q. That they are in range isn't asked: a step that takes them says so
+pub record Brought (N H Q : ℕ) (routes : ℕ → Route) (x : List ℤ) (b left right : ℕ) (c : List ℤ) : Type 0 where
   pub exists : b ≤ H
   pub offers : T (offered (routes b) N)
   pub long : length c ≡ N / 2
-  pub near : (k : ℕ) → k < N / 2 → natAbs (at c k -ℤ at (coefficients (routes b) N (block N x b)) k) ≤ Q
+  pub near : (k : ℕ) → k < N / 2 → natAbs (at c k -ℤ at (coefficients (routes b) N left right (block N x b)) k) ≤ Q
 
--- each step that is taken under number b brings block b. Nothing is asked of the order of the offers, of how often a block is offered, or of the refused ones
+-- each step that is taken under number b brings block b, analysed with the shapes that it is offered with. Nothing is asked of the order of the offers, of how often a block is offered, or of the refused ones
 pub record Numbered (N H Q : ℕ) (routes : ℕ → Route) (x : List ℤ) (us : List Turn) : Type 0 where
-  pub each : (j : ℕ) (t : Turn) → Entry (taken us) j t → Brought N H Q routes x (t .offer .number) (t .offer .brought)
+  pub each : (j : ℕ) (t : Turn) → Entry (taken us) j t → Brought N H Q routes x (t .offer .number) (t .offer .left) (t .offer .right) (t .offer .brought)
 
 -- ---- the claim
 -- the units in which a route may lie away from the definition
@@ -110,6 +113,9 @@ pub record Answered (N : ℕ) (us : List Turn) (last : Stream) : Type 0 where
   pub no-four : (i : ℕ) (t : Turn) → Entry us i t → t .answer .code ≢ 4
   -- the taken numbers are 0, 1, 2 .. without a gap
   pub numbers : (j : ℕ) (t : Turn) → Entry (taken us) j t → t .offer .number ≡ j
+  -- each joint has one shape: the first block that is taken begins with a long one, and the others begin as the one before ends
+  pub first-joint : (t : Turn) → Entry (taken us) 0 t → t .offer .left ≡ 0
+  pub joints : (j : ℕ) (t u : Turn) → Entry (taken us) j t → Entry (taken us) (suc j) u → u .offer .left ≡ t .offer .right
   -- a step is refused with 7 exactly if its number is not the number of steps that were taken before it
   pub seven : (i : ℕ) (t : Turn) → Entry us i t → t .offer .number ≢ length (taken (take i us)) → t .answer .code ≡ 7
   pub only-seven : (i : ℕ) (t : Turn) → Entry us i t → t .answer .code ≡ 7 → t .offer .number ≢ length (taken (take i us))
@@ -118,9 +124,12 @@ pub record Answered (N : ℕ) (us : List Turn) (last : Stream) : Type 0 where
   pub refused-buffer : (i : ℕ) (t : Turn) → Entry us i t → t .answer .code ≢ 0 → t .output ≡ t .offer .buffer
   -- a taken one returns a hop of M samples
   pub hop-long : (j : ℕ) (t : Turn) → Entry (taken us) j t → length (t .output) ≡ N / 2
-  -- the stream after the list is one of N, expects as many as were taken, and its storage from M on is zero
+  -- the stream after the list is one of N, expects as many as were taken, ends with the right shape of the last one taken, which is long where none was, and its
+  -- storage from M on is zero
   pub final-n : last .n ≡ N
   pub final-expected : last .expected ≡ length (taken us)
+  pub final-shape : (j : ℕ) (t : Turn) → Entry (taken us) j t → length (taken us) ≡ suc j → last .shape ≡ t .offer .right
+  pub final-none : length (taken us) ≡ 0 → last .shape ≡ 0
   pub final-long : length (last .tail) ≡ storage
   pub final-zero : drop (N / 2) (last .tail) ≡ replicate (storage - N / 2) (pos 0)
 

@@ -29,18 +29,18 @@ module _ (N : ℕ) (t : T (tabled N)) where
     pub fine-sound : T (sound s)
     fine-sound = sound-of s (rw (fine .n-is) t) (rw (fine .n-is) (fine .limited))
 
-    pub fine-four : (number : ℕ) (x out : List ℤ) → stepCode s number x out ≢ 4
-    fine-four number x out = sound-four s number x out fine-sound
+    pub fine-four : (number l r : ℕ) (x out : List ℤ) → stepCode s number l r x out ≢ 4
+    fine-four number l r x out = sound-four s number l r x out fine-sound
 
-    pub taken-next : (o : Offer) → code s o ≡ 0 → answered s o .answer .stream ≡ next s (o .brought)
+    pub taken-next : (o : Offer) → code s o ≡ 0 → answered s o .answer .stream ≡ next s (o .left) (o .right) (o .brought)
     unfolding answered
-    taken-next o e = taken-stream s (o .number) (o .brought) (o .buffer) e
+    taken-next o e = taken-stream s (o .number) (o .left) (o .right) (o .brought) (o .buffer) e
 
     pub fine-answered : (o : Offer) → Fine N (answered s o .answer .stream)
     fine-answered o = go (ℕ-discrete (code s o) 0)
       where
         go : Dec (code s o ≡ 0) → Fine N (answered s o .answer .stream)
-        go (yes e) = rw (taken-next o e) (fine-next N t s fine (o .brought) (rw (fine .n-is) at (taken-size s (o .number) (o .brought) (o .buffer) e)))
+        go (yes e) = rw (taken-next o e) (fine-next N t s fine (o .left) (o .right) (o .brought) (rw (fine .n-is) at (taken-size s (o .number) (o .left) (o .right) (o .brought) (o .buffer) e)))
         go (no r) = rw (refused-stream s o r) fine
 
   -- after the list

@@ -18,7 +18,7 @@ use Rattle.analysis.specs.declared.Route.the-variants.{Direct}
 use Rattle.stream.specs.Synthesis as Y
 use Rattle.stream.specs.Steps.{next, hop}
 use Rattle.stream_calls.specs.Streams.{fresh}
-use Rattle.stream_calls.specs.StreamLaws.{step-number}
+use Rattle.stream_calls.specs.StreamLaws.{step-number, step-left}
 use Rattle.demands.specs.Steps.{Offer, Turn, answered, run, after, taken, turns, final, Entry, Recording, Brought, Numbered, provedChange, Answered, Returned, WholeReturned, Sharper}
 use Rattle.demands.specs.Steps.Entry.{first, later}
 use Rattle.demands.specs.StepLaws.{taken-buffer, taken-stream, sound-seven, only-seven}
@@ -27,21 +27,29 @@ use Rattle.demands.specs.RecordingLaws.{hop-of, back-near, back-same, ne
 use Rattle.stream.specs.NextLaws.{Fine, hop-long, hop-at, next-at}
 use Rattle.demands.specs.StreamLaws.{fresh-is, fine-made, fine-sound, fine-four, fine-answered, fine-after, taken-next}
 
-taken-output : (s : Stream) (o : Offer) → code s o ≡ 0 → answered s o .output ≡ hop s (o .brought)
+taken-output : (s : Stream) (o : Offer) → code s o ≡ 0 → answered s o .output ≡ hop s (o .left) (o .right) (o .brought)
 unfolding answered
-taken-output s o e = taken-buffer s (o .number) (o .brought) (o .buffer) e
+taken-output s o e = taken-buffer s (o .number) (o .left) (o .right) (o .brought) (o .buffer) e
 
 -- ---- the expected number, step by step
 module _ (s : Stream) (o : Offer) where
   counted : code s o ≡ 0 → answered s o .answer .stream .expected ≡ s .expected + 1
   unfolding answered next
-  counted z = ap (λ (r : Stream). r .expected) (taken-stream s (o .number) (o .brought) (o .buffer) z)
+  counted z = ap (λ (r : Stream). r .expected) (taken-stream s (o .number) (o .left) (o .right) (o .brought) (o .buffer) z)
 
   uncounted : code s o ≢ 0 → answered s o .answer .stream .expected ≡ s .expected
   uncounted r = ap (λ (q : Stream). q .expected) (refused-stream s o r)
 
   as-expected : code s o ≡ 0 → o .number ≡ s .expected
-  as-expected z = step-number s (o .number) (o .brought) (o .buffer) z
+  as-expected z = step-number s (o .number) (o .left) (o .right) (o .brought) (o .buffer) z
+
+  -- and the shape that it ends with
+  remembered : code s o ≡ 0 → answered s o .answer .stream .shape ≡ o .right
+  unfolding answered next
+  remembered z = ap (λ (q : Stream). q .shape) (taken-stream s (o .number) (o .left) (o .right) (o .brought) (o .buffer) z)
+
+  as-ended : code s o ≡ 0 → o .left ≡ s .shape
+  as-ended z = step-left s (o .number) (o .left) (o .right) (o .brought) (o .buffer) z
 
 -- a step is handed a stream that expects as many more as were taken before it
 expected-at : (offers : List Offer) (s : Stream) (i : ℕ) (u : Turn) → Entry (run s offers) i u → u .handed .expected ≡ s .expected + length (taken (take i (run s offers)))
@@ -87,7 +95,68 @@ numbers-from (o ∷ offers) s j u e = go (ℕ-discrete (code s o) 0) (numbers-fr
     go (yes z) ih = cases z (ih (answered s o .answer .stream)) j u (rw (run-taken s o offers z) at e)
     go (no r) ih = ih s j u (rw (run-refused s o offers r) at e)
 
+-- the first block that is taken begins as the stream ends, and the others as the one before
+first-from : (offers : List Offer) (s : Stream) (u : Turn) → Entry (taken (run s offers)) 0 u → u .offer .left ≡ s .shape
+unfolding run taken
+first-from [] s u e = absurd (no-entry e refl)
+first-from (o ∷ offers) s u e = go (ℕ-discrete (code s o) 0) (first-from offers)
+  where
+    cases : code s o ≡ 0 → (us : List Turn) (u : Turn) → Entry (answered s o ∷ us) 0 u → u .offer .left ≡ s .shape
+    cases z us u first = unfold answered in as-ended s o z
+
+    go : Dec (code s o ≡ 0) → ((s : Stream) (u : Turn) → Entry (taken (run s offers)) 0 u → u .offer .left ≡ s .shape) → u .offer .left ≡ s .shape
+    go (yes z) ih = cases z (taken (run (answered s o .answer .stream) offers)) u (rw (run-taken s o offers z) at e)
+    go (no q) ih = ih s u (rw (run-refused s o offers q) at e)
+
+joints-from : (offers : List Offer) (s : Stream) (j : ℕ) (t u : Turn) → Entry (taken (run s offers)) j t → Entry (taken (run s offers)) (suc j) u → u .offer .left ≡ t .offer .right
+unfolding run taken
+joints-from [] s j t u e f = absurd (no-entry e refl)
+joints-from (o ∷ offers) s j t u e f = go (ℕ-discrete (code s o) 0) (joints-from offers)
+  where
+    goal : Stream → Type 0
+    goal s = (j : ℕ) (t u : Turn) → Entry (taken (run s offers)) j t → Entry (taken (run s offers)) (suc j) u → u .offer .left ≡ t .offer .right
+
+    cases : code s o ≡ 0 → goal (answered s o .answer .stream) → (j : ℕ) (t u : Turn) → Entry (answered s o ∷ taken (run (answered s o .answer .stream) offers)) j t →
+        Entry (answered s o ∷ taken (run (answered s o .answer .stream) offers)) (suc j) u → u .offer .left ≡ t .offer .right
+    cases z ih j t u first (later h) = unfold answered in first-from offers (answered s o .answer .stream) u h ∙ remembered s o z
+    cases z ih j t u (later {i = k} g) (later h) = ih k t u g h
+
+    go : Dec (code s o ≡ 0) → ((s : Stream) → goal s) → u .offer .left ≡ t .offer .right
+    go (yes z) ih = cases z (ih (answered s o .answer .stream)) j t u (rw (run-taken s o offers z) at e) (rw (run-taken s o offers z) at f)
+    go (no q) ih = ih s j t u (rw (run-refused s o offers q) at e) (rw (run-refused s o offers q) at f)
+
+-- the stream after the list ends as the last block that is taken
+after-none : (offers : List Offer) (s : Stream) → length (taken (run s offers)) ≡ 0 → after s offers .shape ≡ s .shape
+unfolding run taken after
+after-none [] s e = refl
+after-none (o ∷ offers) s e = go (ℕ-discrete (code s o) 0) (after-none offers)
+  where
+    go : Dec (code s o ≡ 0) → ((s : Stream) → length (taken (run s offers)) ≡ 0 → after s offers .shape ≡ s .shape) → after s (o ∷ offers) .shape ≡ s .shape
+    go (yes z) ih = let f : suc (length (taken (run (answered s o .answer .stream) offers))) ≡ 0 = rw (run-taken s o offers z) at e in absurd (omega arith)
+    go (no q) ih = ap (λ (r : Stream). r .shape) (after-refused s o offers q) ∙ ih s (rw (run-refused s o offers q) at e)
+
+after-last : (offers : List Offer) (s : Stream) (j : ℕ) (u : Turn) → Entry (taken (run s offers)) j u → length (taken (run s offers)) ≡ suc j → after s offers .shape ≡ u .offer .right
+unfolding run taken after
+after-last [] s j u e f = absurd (no-entry e refl)
+after-last (o ∷ offers) s j u e f = go (ℕ-discrete (code s o) 0) (after-last offers)
+  where
+    goal : Stream → Type 0
+    goal s = (j : ℕ) (u : Turn) → Entry (taken (run s offers)) j u → length (taken (run s offers)) ≡ suc j → after s offers .shape ≡ u .offer .right
+
+    cases : code s o ≡ 0 → goal (answered s o .answer .stream) → (j : ℕ) (u : Turn) → Entry (answered s o ∷ taken (run (answered s o .answer .stream) offers)) j u →
+        suc (length (taken (run (answered s o .answer .stream) offers))) ≡ suc j → after (answered s o .answer .stream) offers .shape ≡ u .offer .right
+    cases z ih j u first f = unfold answered in after-none offers (answered s o .answer .stream) (omega arith) ∙ remembered s o z
+    cases z ih j u (later {i = k} g) f = ih k u g (omega arith)
+
+    go : Dec (code s o ≡ 0) → ((s : Stream) → goal s) → after s (o ∷ offers) .shape ≡ u .offer .right
+    go (yes z) ih = cases z (ih (answered s o .answer .stream)) j u (rw (run-taken s o offers z) at e) (rw (run-taken s o offers z) at f)
+    go (no q) ih = ap (λ (r : Stream). r .shape) (after-refused s o offers q) ∙ ih s j u (rw (run-refused s o offers q) at e) (rw (run-refused s o offers q) at f)
+
 -- from a fresh stream
+fresh-shape : (N : ℕ) → T (tabled N) → fresh N .stream .shape ≡ 0
+unfolding Y.fresh
+fresh-shape N t = rw (fresh-is N t)
+
 fresh-expects : (N : ℕ) → T (tabled N) → fresh N .stream .expected ≡ 0
 unfolding Y.fresh
 fresh-expects N t = rw (fresh-is N t)
@@ -109,12 +178,12 @@ module _ (N : ℕ) (t : T (tabled N)) where
   turned : (s : Stream) → Fine N s → (o : Offer) → Turned (answered s o)
   unfolding answered
   turned s fine o = rw (answered-code s o) (record {
-    no-four = fine-four N t s fine (o .number) (o .brought) (o .buffer);
+    no-four = fine-four N t s fine (o .number) (o .left) (o .right) (o .brought) (o .buffer);
     kept-stream = refused-stream s o;
     kept-buffer = refused-buffer s o;
-    long = λ e. rw (taken-output s o e) (hop-long N s (fine .n-is) (o .brought));
-    seven = sound-seven s (o .number) (o .brought) (o .buffer) (fine-sound N t s fine);
-    for-number = only-seven s (o .number) (o .brought) (o .buffer);
+    long = λ e. rw (taken-output s o e) (hop-long N s (fine .n-is) (o .left) (o .right) (o .brought));
+    seven = sound-seven s (o .number) (o .left) (o .right) (o .brought) (o .buffer) (fine-sound N t s fine);
+    for-number = only-seven s (o .number) (o .left) (o .right) (o .brought) (o .buffer);
   })
 
   every-turn : (offers : List Offer) (s : Stream) → Fine N s → (i : ℕ) (u : Turn) → Entry (run s offers) i u → Turned u
@@ -124,11 +193,12 @@ module _ (N : ℕ) (t : T (tabled N)) where
   every-turn (o ∷ offers) s fine i u (later {i = k} e) = every-turn offers (answered s o .answer .stream) (fine-answered N t s fine o) k u e
 
   module _ (H Q : ℕ) (routes : ℕ → Route) (x : List ℤ) (rec : Recording N H x) where
-    -- ---- the hops. A stream before the step that brings block j: its tail is what block j - 1 left
+    -- ---- the hops. A stream before the step that brings block j: its tail is what block j - 1 left, and it ends with that block's right joint
     record Before (b : ℕ) (s : Stream) : Type 0 where
       c : List ℤ
-      brought : Brought N H Q routes x b c
-      left : (n : ℕ) → n < N / 2 → at (s .tail) n ≡ V′ N (rising N) (falling N) c (N / 2 + n)
+      l : ℕ
+      brought : Brought N H Q routes x b l (s .shape) c
+      left : (n : ℕ) → n < N / 2 → at (s .tail) n ≡ V′ N (rising l N) (falling (s .shape) N) c (N / 2 + n)
 
     record State (j : ℕ) (s : Stream) : Type 0 where
       fine : Fine N s
@@ -140,36 +210,39 @@ module _ (N : ℕ) (t : T (tabled N)) where
       same : Q ≤ 9 → routes b ≡ Direct → routes (suc b) ≡ Direct → (n : ℕ) → n < N / 2 → at (u .output) n ≡ at x (b * (N / 2) + n)
 
     module _ (s : Stream) (o : Offer) (zero-code : code s o ≡ 0) where
-      kept : (b : ℕ) → State (suc b) s → Brought N H Q routes x (suc b) (o .brought) → Kept b (answered s o)
+      kept : (b : ℕ) → State (suc b) s → Brought N H Q routes x (suc b) (o .left) (o .right) (o .brought) → Kept b (answered s o)
       kept b st brought =
           let v = st .before b refl in
+          let met : Brought N H Q routes x (suc b) (s .shape) (o .right) (o .brought) = rw (as-ended s o zero-code) at brought in
           record {
-            near = λ n p. rw (is v n p) (back-near N t H x rec Q routes b (v .c) (o .brought) (v .brought) brought n p);
-            same = λ q e f n p. rw (is v n p) (back-same N t H x rec Q routes b (v .c) (o .brought) (v .brought) brought q e f n p);
+            near = λ n p. rw (is v n p) (back-near N t H x rec Q routes b (v .l) (s .shape) (o .right) (v .c) (o .brought) (v .brought) met n p);
+            same = λ q e f n p. rw (is v n p) (back-same N t H x rec Q routes b (v .l) (s .shape) (o .right) (v .c) (o .brought) (v .brought) met q e f n p);
           }
         where
           is : (v : Before b s) (n : ℕ) → n < N / 2 →
-              at (answered s o .output) n ≡ clamp (rnd (V′ N (rising N) (falling N) (v .c) (N / 2 + n) +ℤ V′ N (rising N) (falling N) (o .brought) n) (N * 2 ^ 30))
-          is v n p = rw (taken-output s o zero-code, hop-at N s (st .fine .n-is) (o .brought) n p, v .left n p)
+              at (answered s o .output) n ≡
+              clamp (rnd (V′ N (rising (v .l) N) (falling (s .shape) N) (v .c) (N / 2 + n) +ℤ V′ N (rising (s .shape) N) (falling (o .right) N) (o .brought) n) (N * 2 ^ 30))
+          is v n p = rw (taken-output s o zero-code, hop-at N s (st .fine .n-is) (o .left) (o .right) (o .brought) n p, v .left n p, as-ended s o zero-code)
 
-      state-next : (j : ℕ) → State j s → Brought N H Q routes x j (o .brought) → State (suc j) (answered s o .answer .stream)
+      state-next : (j : ℕ) → State j s → Brought N H Q routes x j (o .left) (o .right) (o .brought) → State (suc j) (answered s o .answer .stream)
       state-next j st brought = record {
         fine = fine-answered N t s (st .fine) o;
         before = λ b e. record {
           c = o .brought;
-          brought = let f : b ≡ j = omega arith in rw f brought;
-          left = rw (taken-next N t s (st .fine) o zero-code) (next-at N s (st .fine .n-is) (o .brought));
+          l = o .left;
+          brought = let f : b ≡ j = omega arith in rw (f, remembered s o zero-code) brought;
+          left = rw (remembered s o zero-code, taken-next N t s (st .fine) o zero-code) (next-at N s (st .fine .n-is) (o .left) (o .right) (o .brought));
         };
       }
 
     -- ---- the taken turns of the rest of a list, from block j on
     record Bring (j : ℕ) (us : List Turn) : Type 0 where
-      each : (i : ℕ) (u : Turn) → Entry us i u → Brought N H Q routes x (j + i) (u .offer .brought)
+      each : (i : ℕ) (u : Turn) → Entry us i u → Brought N H Q routes x (j + i) (u .offer .left) (u .offer .right) (u .offer .brought)
 
     record Keep (j : ℕ) (us : List Turn) : Type 0 where
       each : (i : ℕ) (u : Turn) → Entry us i u → (b : ℕ) → j + i ≡ suc b → Kept b u
 
-    bring-first : (j : ℕ) (u : Turn) (us : List Turn) → Bring j (u ∷ us) → Brought N H Q routes x j (u .offer .brought)
+    bring-first : (j : ℕ) (u : Turn) (us : List Turn) → Bring j (u ∷ us) → Brought N H Q routes x j (u .offer .left) (u .offer .right) (u .offer .brought)
     bring-first j u us br = let e : j + 0 ≡ j = omega arith in rw e at (br .each 0 u first)
 
     bring-later : (j : ℕ) (u : Turn) (us : List Turn) → Bring j (u ∷ us) → Bring (suc j) us
@@ -196,7 +269,7 @@ module _ (N : ℕ) (t : T (tabled N)) where
             let s′ = answered s o .answer .stream in
             let us = taken (run s′ offers) in
             let br′ : Bring j (answered s o ∷ us) = rw (run-taken s o offers z) at br in
-            let now : Brought N H Q routes x j (o .brought) = unfold answered in bring-first j (answered s o) us br′ in
+            let now : Brought N H Q routes x j (o .left) (o .right) (o .brought) = unfold answered in bring-first j (answered s o) us br′ in
             rw (run-taken s o offers z)
             (keep-cons j (answered s o) us (λ b e. kept s o z b (rw e at st) (rw e at now))
             (ih s′ (suc j) (state-next s o z j st now) (bring-later j (answered s o) us br′)))
@@ -223,6 +296,8 @@ every-list N t offers =
       made = rw (fresh-is N t);
       no-four = λ i u e. each i u e .no-four;
       numbers = numbered-by N t offers;
+      first-joint = λ u e. first-from offers s u e ∙ fresh-shape N t;
+      joints = joints-from offers s;
       seven = λ i u e n. each i u e .seven (λ (f : u .offer .number ≡ u .handed .expected). n (omega (arith, f, zero, expected-at offers s i u e)));
       only-seven = λ i u e z f. each i u e .for-number z (omega (arith, f, zero, expected-at offers s i u e));
       refused-stream = λ i u e. each i u e .kept-stream;
@@ -230,6 +305,8 @@ every-list N t offers =
       hop-long = λ j u e. let f = entry-taken (run s offers) j u e in each (f .place) u (f .entry) .long (f .zero-code);
       final-n = last .n-is;
       final-expected = omega (arith, zero, expected-after offers s);
+      final-shape = after-last offers s;
+      final-none = λ e. after-none offers s e ∙ fresh-shape N t;
       final-long = last .long;
       final-zero = last .zeros;
     }

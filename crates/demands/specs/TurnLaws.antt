@@ -186,9 +186,9 @@ module _ (N : ℕ) (u v : ℕ → ℤ) (t : (n : ℕ) → v n ≡ negℤ (u n)) 
 block-turn : (route : Route) (N : ℕ) (left right : ℕ → ℤ) (x : List ℤ) → spectrum route N (y N left right (opposite x)) ≡ opposite (spectrum route N (y N left right x))
 block-turn route N left right x = spectrum-turn N (y N left right x) (y N left right (opposite x)) (y-turn N left right x) route
 
-coefficients-turn : (route : Route) (N : ℕ) (x : List ℤ) → coefficients route N (opposite x) ≡ opposite (coefficients route N x)
+coefficients-turn : (route : Route) (N l r : ℕ) (x : List ℤ) → coefficients route N l r (opposite x) ≡ opposite (coefficients route N l r x)
 unfolding coefficients
-coefficients-turn route N x = block-turn route N (rising N) (falling N) x
+coefficients-turn route N l r x = block-turn route N (rising l N) (falling r N) x
 
 -- zeros turned are zeros
 zeros-turn : (m : ℕ) → replicate m (pos 0) ≡ opposite (replicate m (pos 0))
@@ -218,8 +218,8 @@ joined-turn (suc B) f g h = ap₂ (λ (p q : List ℤ). p ++ q) (joined-turn B f
 analysis-turn : (route : Route) (N H : ℕ) (x : List ℤ) → analysis route N H (opposite x) ≡ opposite (analysis route N H x)
 unfolding analysis
 analysis-turn route N H x =
-    joined-turn (H + 1) (λ b. coefficients route N (block N x b)) (λ b. coefficients route N (block N (opposite x) b))
-    (λ b. ap (coefficients route N) (cut-turn N x b) ∙ coefficients-turn route N (block N x b))
+    joined-turn (H + 1) (λ b. coefficients route N 0 0 (block N x b)) (λ b. coefficients route N 0 0 (block N (opposite x) b))
+    (λ b. ap (coefficients route N 0 0) (cut-turn N x b) ∙ coefficients-turn route N 0 0 (block N x b))
 
 -- ---- -32,768
 sample-turn : (s : ℤ) → Sample s → (s ≡ least → ⊥) → Sample (negℤ s)
@@ -239,8 +239,8 @@ sign-rule = record {
       rw (opposite-at x i) (sample-turn (at x i) (T .sample i q) (T .not-least i q));
   without-least = λ S. omega (arith, simp ints at (S .high));
   block = block-turn;
-  analysed = λ route N x out out′ c c′.
-      sym (analyse-taken route N (opposite x) out′ c′ .1) ∙ coefficients-turn route N x ∙ ap opposite (analyse-taken route N x out c .1);
+  analysed = λ route N l r x out out′ c c′.
+      sym (analyse-taken route N l r (opposite x) out′ c′ .1) ∙ coefficients-turn route N l r x ∙ ap opposite (analyse-taken route N l r x out c .1);
   recorded = λ route N H x out out′ c c′.
       sym (recorded-taken route N H (opposite x) out′ c′ .1) ∙ analysis-turn route N H x ∙ ap opposite (recorded-taken route N H x out c .1);
 }

@@ -31,9 +31,9 @@ pub record Sign-rule : Type 0 where
   pub without-least : Sample (negℤ least) → ⊥
   -- a block by either route, at joints of any halves
   pub block : (route : Route) (N : ℕ) (left right : ℕ → ℤ) (x : List ℤ) → spectrum route N (y N left right (opposite x)) ≡ opposite (spectrum route N (y N left right x))
-  -- what two taken calls of `analyse` leave
-  pub analysed : (route : Route) (N : ℕ) (x out out′ : List ℤ) → analyseCode route N x out ≡ 0 → analyseCode route N (opposite x) out′ ≡ 0 →
-      analyseOut route N (opposite x) out′ ≡ opposite (analyseOut route N x out)
+  -- what two taken calls of `analyse` leave, at every pair of shapes (P7)
+  pub analysed : (route : Route) (N left right : ℕ) (x out out′ : List ℤ) → analyseCode route N left right x out ≡ 0 → analyseCode route N left right (opposite x) out′ ≡ 0 →
+      analyseOut route N left right (opposite x) out′ ≡ opposite (analyseOut route N left right x out)
   -- and two of `analyse_recording`
   pub recorded : (route : Route) (N H : ℕ) (x out out′ : List ℤ) → recordedCode route N H x out ≡ 0 → recordedCode route N H (opposite x) out′ ≡ 0 →
       recordedOut route N H (opposite x) out′ ≡ opposite (recordedOut route N H x out)

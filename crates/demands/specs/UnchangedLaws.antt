@@ -56,7 +56,7 @@ module _ (N H : ℕ) (x buffer : List ℤ) (samples : (i : ℕ) → i < length x
   unfolding analysis
   long =
       ap length (sym are)
-      ∙ joined-length (λ b. coefficients Direct N (block N x b)) (N / 2) (H + 1) (λ b p. coefficients-length Direct N (block N x b)) (H + 1) (omega arith)
+      ∙ joined-length (λ b. coefficients Direct N 0 0 (block N x b)) (N / 2) (H + 1) (λ b p. coefficients-length Direct N 0 0 (block N x b)) (H + 1) (omega arith)
 
   range : InRange X
   unfolding analysis
@@ -66,9 +66,9 @@ module _ (N H : ℕ) (x buffer : List ℤ) (samples : (i : ℕ) → i < length x
       go i l =
           let b = i / (N / 2) in
           let k = i % (N / 2) in
-          let e = joined-at (λ b. coefficients Direct N (block N x b)) (N / 2) (H + 1) (λ b p. coefficients-length Direct N (block N x b)) (pos 0) (H + 1) b k (omega arith) (l .before) (l .less) in
-          rw (ap (at X) (sym (l .is)) ∙ ap (λ (c : List ℤ). at c (b * (N / 2) + k)) (sym are) ∙ e ∙ by-direct N (block N x b) k (l .less))
-          (X-taken N (windowed N (block N x b)) (windowed-size N tab H x rec b) (length-of N tab) k)
+          let e = joined-at (λ b. coefficients Direct N 0 0 (block N x b)) (N / 2) (H + 1) (λ b p. coefficients-length Direct N 0 0 (block N x b)) (pos 0) (H + 1) b k (omega arith) (l .before) (l .less) in
+          rw (ap (at X) (sym (l .is)) ∙ ap (λ (c : List ℤ). at c (b * (N / 2) + k)) (sym are) ∙ e ∙ by-direct N 0 0 (block N x b) k (l .less))
+          (X-taken N (windowed N 0 0 (block N x b)) (windowed-size N tab H x rec b 0 0) (length-of N tab) k)
 
   pub unchanged-taken : (out : List ℤ) → length out ≡ H * (N / 2) → playedCode N H X out ≡ 0
   unchanged-taken out room = demand-1 .played N H X out .taken tab (record { some = rec .hops; most = counted-most H (facts .hops) }) long room range

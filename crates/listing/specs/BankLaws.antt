@@ -21,7 +21,7 @@ use Rattle.stream.specs.Steps.{streamAfter, returned}
 use Rattle.analysis.specs.declared.Route.the-variants.{Direct}
 use Rattle.analysis.specs.Analysis.{spectrum, coefficients}
 use Rattle.recording.specs.Recordings.{silence, padded, standing, block}
-use Rattle.stream.specs.StepLaws.{rising-size, falling-size}
+use Rattle.cosine.specs.KernelLaws.{rising-size, falling-size}
 use Rattle.stream.specs.NextLaws.{Fine, hop-at, stream-n, stream-fine}
 use Rattle.listing.specs.Listing.{recording, analysed}
 
@@ -169,19 +169,19 @@ block-of N t h g hl gl hs gs = record { long = length-append h g ∙ omega (arit
 module _ (N : ℕ) (t : T (tabled N)) where
   -- what analysis gives is taken
   module _ (xs : List ℤ) (B : Block N xs) where
-    pub coefficients-long : length (coefficients Direct N xs) ≡ N / 2
+    pub coefficients-long : length (coefficients Direct N 0 0 xs) ≡ N / 2
     unfolding coefficients spectrum direct
-    coefficients-long = length-table (X N (y N (rising N) (falling N) xs)) (N / 2)
+    coefficients-long = length-table (X N (y N (rising 0 N) (falling 0 N) xs)) (N / 2)
 
-    coefficient : (k : ℕ) → k < N / 2 → natAbs (at (coefficients Direct N xs) k) ≤ 2 ^ 29
+    coefficient : (k : ℕ) → k < N / 2 → natAbs (at (coefficients Direct N 0 0 xs) k) ≤ 2 ^ 29
     unfolding coefficients spectrum direct
     coefficient k p =
-        rw (getD-table (X N (y N (rising N) (falling N) xs)) (pos 0) (N / 2) k p)
-        (X-taken N (y N (rising N) (falling N) xs)
-        (y-size N (rising N) (falling N) (part-of N t) (λ n q. rising-size N n) (λ n q. falling-size N n) xs (λ n q. sample-abs (B .sample n q)))
+        rw (getD-table (X N (y N (rising 0 N) (falling 0 N) xs)) (pos 0) (N / 2) k p)
+        (X-taken N (y N (rising 0 N) (falling 0 N) xs)
+        (y-size N (rising 0 N) (falling 0 N) (part-of N t) (λ n q. rising-size 0 N n) (λ n q. falling-size 0 N n) xs (λ n q. sample-abs (B .sample n q)))
         (length-of N t) k)
 
-    pub coefficients-small : Small (coefficients Direct N xs) (2 ^ 29)
+    pub coefficients-small : Small (coefficients Direct N 0 0 xs) (2 ^ 29)
     coefficients-small = record { small = λ k p. coefficient k (omega (arith, coefficients-long)) }
 
   -- the blocks of a listing, and the stream that step b is handed
@@ -200,4 +200,4 @@ module _ (N : ℕ) (t : T (tabled N)) where
 -- ---- what a step returns are samples
 pub returned-sample : (N : ℕ) (x : ℕ → List ℤ) (b i : ℕ) → i < N / 2 → Sample (at (returned N x b) i)
 unfolding returned
-returned-sample N x b i p = rw (hop-at N (streamAfter N x b) (stream-n N x b) (x b) i p) (clamp-sample _)
+returned-sample N x b i p = rw (hop-at N (streamAfter N x b) (stream-n N x b) 0 0 (x b) i p) (clamp-sample _)

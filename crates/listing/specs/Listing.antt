@@ -17,9 +17,9 @@ unfoldable pub recording : List (List ℤ) → List ℤ
 recording [] = []
 recording (h ∷ hs) = h ++ recording hs
 
--- block b, analysed directly
+-- block b, analysed directly, with long joints (document 02, P7)
 unfoldable pub analysed : ℕ → List ℤ → ℕ → List ℤ
-analysed N x b = coefficients Direct N (block N x b)
+analysed N x b = coefficients Direct N 0 0 (block N x b)
 
 -- hop h of a listing as it comes back: what the step of block h + 1 returns, from a fresh stream, each step on the coefficients of its block,
 -- unchanged. What the step of block 0 returns is the run-in, and is not printed

@@ -154,15 +154,15 @@ module _ {text : List ℕ} {N H b : ℕ} {buffer : List ℤ} {place : ℕ} {s : 
     pub step-block : Block (s .n) (take N after)
     step-block = rw (reached-n, front) ys-block
 
-    brought : coefficients Direct (s .n) (take N after) ≡ x b
+    brought : coefficients Direct (s .n) 0 0 (take N after) ≡ x b
     unfolding analysed
     brought = rw (reached-n, front, ys-is)
 
-    pub step-returned : hop s (coefficients Direct (s .n) (take N after)) ≡ returned N x b
+    pub step-returned : hop s 0 0 (coefficients Direct (s .n) 0 0 (take N after)) ≡ returned N x b
     unfolding returned
     step-returned = rw (brought, R .stream)
 
-    pub reached-next : (place′ : ℕ) (s′ : Stream) → place′ ≡ placeBehind text place → s′ ≡ next s (coefficients Direct (s .n) (take N after)) → Reached text N H (suc b) after place′ s′
+    pub reached-next : (place′ : ℕ) (s′ : Stream) → place′ ≡ placeBehind text place → s′ ≡ next s 0 0 (coefficients Direct (s .n) 0 0 (take N after)) → Reached text N H (suc b) after place′ s′
     unfolding streamAfter
     reached-next place′ s′ behind stepped = record {
       room = length-append ys (drop N buffer) ∙ omega (arith, length-drop N buffer, ys-block .long, lent-fits, R .room);

@@ -38,13 +38,13 @@ fn hop_room() -> [i16; HOP]
 fn step(s: Stream, block: &[i16], out: &mut [i16]) -> Stream
     requires { ⌜ T (tabled (s .n)) × Bounded (s .n / 2) (s .tail) × Block (s .n) (now block) × (length (now out) ≡ s .n / 2) ⌝ }
     requires { ⌜ s .expected < 2 ^ 32 ⌝ }
-    ensures { λ r. ⌜ r ≡ next s (coefficients Direct (s .n) (now (block .entry))) ⌝ }
-    ensures { λ _. ⌜ now (out .exit) ≡ hop s (coefficients Direct (s .n) (now (block .entry))) ⌝ }
+    ensures { λ r. ⌜ r ≡ next s 0 0 (coefficients Direct (s .n) 0 0 (now (block .entry))) ⌝ }
+    ensures { λ _. ⌜ now (out .exit) ≡ hop s 0 0 (coefficients Direct (s .n) 0 0 (now (block .entry))) ⌝ }
 {
     let n = s.n;
     let m = n / 2;
     let mut x = spectrum_room();
-    analysis::direct::analyse(n, block, &mut x[..m]);
+    analysis::direct::analyse(n, 0, 0, block, &mut x[..m]);
     synthesis::advance(s, &x[..m], out)
 }
 

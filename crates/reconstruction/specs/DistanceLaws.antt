@@ -17,8 +17,8 @@ use Rattle.arithmetic.specs.RoundingLaws.{sample-abs, rnd-near}
 use Rattle.arithmetic.specs.SumLaws.{sumℕ-le}
 use Rattle.cosine.specs.Kernels.{tabled, rising, falling}
 use Rattle.cosine.specs.LengthLaws.{Part, part-of}
-use Rattle.cosine.specs.KernelLaws.{W-size, falling-mirror}
-use Rattle.cosine.specs.PowerLaws.{sine-joint}
+use Rattle.cosine.specs.KernelLaws.{rising-size, falling-size, falling-mirror}
+use Rattle.cosine.specs.PowerLaws.{joint}
 use Rattle.transform.specs.Analysis.{window, y, X}
 use Rattle.transform.specs.Synthesis.{U, V′}
 use Rattle.transform.specs.SizeLaws.{window-left, window-right, y-size}
@@ -118,16 +118,15 @@ module _ (N : ℕ) (t : T (tabled N)) {rise₁ fall₁ rise₂ fall₂ : ℕ →
     returned-same h n p =
         none-equal (clamp (rnd (V′ N rise₁ fall₁ Z₁ (N / 2 + n) +ℤ V′ N rise₂ fall₂ Z₂ n) (N * 2 ^ 30))) (at x₂ n) (rw (by-none Q h) at (returned-each n p))
 
--- blocks whose windows are the sine window
-pub sine-neighbours : (N : ℕ) → T (tabled N) → (x₁ x₂ : List ℤ) →
+-- blocks that meet in a joint of the shape j, the first with a left joint of the shape l, the second with a right joint of the shape r
+pub joint-neighbours : (N l j r : ℕ) → T (tabled N) → (x₁ x₂ : List ℤ) →
     ((n : ℕ) → n < N → Sample (at x₁ n)) → ((n : ℕ) → n < N → Sample (at x₂ n)) → ((n : ℕ) → n < N / 2 → at x₁ (N / 2 + n) ≡ at x₂ n) →
-    Neighbours N (rising N) (falling N) (rising N) (falling N) x₁ x₂
-unfolding falling
-sine-neighbours N t x₁ x₂ first second shared = record {
-  joint = sine-joint N t;
-  mirrored = falling-mirror N (part-of N t);
-  before = sine-joint N t .size;
-  after = λ n p. W-size N (N / 2 + n);
+    Neighbours N (rising l N) (falling j N) (rising j N) (falling r N) x₁ x₂
+joint-neighbours N l j r t x₁ x₂ first second shared = record {
+  joint = joint j N t;
+  mirrored = falling-mirror N (part-of N t) j;
+  before = λ n p. rising-size l N n;
+  after = λ n p. falling-size r N n;
   first = first;
   second = second;
   shared = shared;

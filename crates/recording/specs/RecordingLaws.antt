@@ -64,18 +64,18 @@ part-next N b X two =
 -- ---- analysis: the first block, those that stand in the samples, and the last one
 module _ (route : Route) (N H : ℕ) (two : N / 2 + N / 2 ≡ N) (some : 1 ≤ H) (x : List ℤ) (long : length x ≡ H * (N / 2)) where
   abbrev g : ℕ → List ℤ
-  g b = coefficients route N (block N x b)
+  g b = coefficients route N 0 0 (block N x b)
 
-  pub analysis-made : {first inside last : List ℤ} → first ≡ coefficients route N (edge N (N / 2) (take (N / 2) x)) →
-      inside ≡ joined (H - 1) (λ b. coefficients route N (standing N x b)) → last ≡ coefficients route N (edge N 0 (drop ((H - 1) * (N / 2)) x)) →
+  pub analysis-made : {first inside last : List ℤ} → first ≡ coefficients route N 0 0 (edge N (N / 2) (take (N / 2) x)) →
+      inside ≡ joined (H - 1) (λ b. coefficients route N 0 0 (standing N x b)) → last ≡ coefficients route N 0 0 (edge N 0 (drop ((H - 1) * (N / 2)) x)) →
       first ++ (inside ++ last) ≡ analysis route N H x
   unfolding analysis joined
   analysis-made p q r =
       let h = H - 1 in
       let e : H ≡ suc h = omega arith in
       let f : H + 1 ≡ suc (suc h) = omega arith in
-      let i = joined-same h (λ b. coefficients route N (standing N x b)) (λ b. g (suc b)) (λ b l. ap (coefficients route N) (sym (block-inside N H two x long b (omega arith)))) in
-      rw (p ∙ ap (coefficients route N) (sym (block-first N H two x long some)), q ∙ i, r ∙ ap (coefficients route N) (sym (block-last N H two x long h e)))
+      let i = joined-same h (λ b. coefficients route N 0 0 (standing N x b)) (λ b. g (suc b)) (λ b l. ap (coefficients route N 0 0) (sym (block-inside N H two x long b (omega arith)))) in
+      rw (p ∙ ap (coefficients route N 0 0) (sym (block-first N H two x long some)), q ∙ i, r ∙ ap (coefficients route N 0 0) (sym (block-last N H two x long h e)))
       (sym (ap (λ (k : ℕ). joined k g) f ∙ ap (λ (l : List ℤ). l ++ g (suc h)) (joined-front h g) ∙ append-assoc (g 0) (joined h (λ b. g (suc b))) (g (suc h))))
 
 -- ---- on coefficients in range

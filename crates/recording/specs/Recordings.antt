@@ -24,9 +24,9 @@ standing N x b = take N (drop (b * (N / 2)) x)
 unfoldable pub block : ℕ → List ℤ → ℕ → List ℤ
 block N x b = standing N (padded N x) b
 
--- analysis: the coefficients of the H + 1 blocks of the recording x, block after block
+-- analysis: the coefficients of the H + 1 blocks of the recording x, block after block, all with long joints (document 02, P7)
 unfoldable pub analysis : Route → ℕ → ℕ → List ℤ → List ℤ
-analysis route N H x = joined (H + 1) (λ b. coefficients route N (block N x b))
+analysis route N H x = joined (H + 1) (λ b. coefficients route N 0 0 (block N x b))
 
 -- the M coefficients of block b, of those of a recording
 unfoldable pub part : ℕ → List ℤ → ℕ → List ℤ

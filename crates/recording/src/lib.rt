@@ -37,23 +37,23 @@ fn copy(hop: &[i16], out: &mut [i16])
 // The coefficients of a block of one hop, which stands at place `at`, and of zeros: the first block and the last are such, in a block of their own.
 fn edge_block(route: Route, n: usize, at: usize, hop: &[i16], out: &mut [i32])
     requires { ⌜ T (offered route n) × (at ≤ n / 2) × (length (now hop) ≡ n / 2) × (length (now out) ≡ n / 2) ⌝ }
-    ensures { λ _. ⌜ now (out .exit) ≡ coefficients route n (edge n at (now (hop .entry))) ⌝ }
+    ensures { λ _. ⌜ now (out .exit) ≡ coefficients route n 0 0 (edge n at (now (hop .entry))) ⌝ }
 {
     let mut block = silent_block();
     copy(hop, &mut block[at..at + n / 2]);
-    analysis::analyse_block(route, n, &block[..n], out);
+    analysis::analyse_block(route, n, 0, 0, &block[..n], out);
 }
 
 // The coefficients of the blocks that stand in the samples as they are, each a hop behind the one before: read in place.
 fn standing_blocks(route: Route, n: usize, blocks: usize, x: &[i16], out: &mut [i32])
     requires { ⌜ T (offered route n) × (blocks ≤ 4095) × (length (now x) ≡ (blocks + 1) * (n / 2)) × (length (now out) ≡ blocks * (n / 2)) ⌝ }
-    ensures { λ _. ⌜ now (out .exit) ≡ joined blocks (λ b. coefficients route n (standing n (now (x .entry)) b)) ⌝ }
+    ensures { λ _. ⌜ now (out .exit) ≡ joined blocks (λ b. coefficients route n 0 0 (standing n (now (x .entry)) b)) ⌝ }
 {
     let m = n / 2;
     let mut b = 0;
     while b < blocks {
         let at = b * m;
-        analysis::analyse_block(route, n, &x[at..at + n], &mut out[at..at + m]);
+        analysis::analyse_block(route, n, 0, 0, &x[at..at + n], &mut out[at..at + m]);
         b += 1;
     }
 }
@@ -79,9 +79,9 @@ pub fn synthesise(n: usize, hops: usize, x: &[i32], out: &mut [i16])
 {
     let m = n / 2;
     let mut tail = [0i64; stream::STORAGE];
-    synthesis::advance_tail(n, &x[..m], &mut tail, &mut out[..m]);
+    synthesis::advance_tail(n, 0, 0, &x[..m], &mut tail, &mut out[..m]);
     for h in 0..hops {
         let at = h * m;
-        synthesis::advance_tail(n, &x[at + m..at + n], &mut tail, &mut out[at..at + m]);
+        synthesis::advance_tail(n, 0, 0, &x[at + m..at + n], &mut tail, &mut out[at..at + m]);
     }
 }

@@ -4,8 +4,8 @@ ghost use mathlib.Core.Path.{_≡_};
 ghost use Rattle.recording_calls.specs.Recordings.{recordedCode, recordedOut, playedCode, playedOut, shaped, innerOf};
 use analysis::Route;
 
-// The coefficients of the H + 1 blocks of a recording of `hops` hops, by the route named. 1: the route is not offered at n. 2: the number of hops
-// is not 1 to 4,095, or a buffer's length is not the stated one. Refused, `out` is left alone.
+// The coefficients of the H + 1 blocks of a recording of `hops` hops, by the route named, with long joints. 1: the route is not offered at n. 2: the number of
+// hops is not 1 to 4,095, or a buffer's length is not the stated one. Refused, `out` is left alone.
 pub fn analyse_recording(route: Route, n: usize, hops: usize, x: &[i16], out: &mut [i32]) -> u32
     ensures { λ r. ⌜ r ≡ recordedCode route n hops (now (x .entry)) (now (out .entry)) ⌝ }
     ensures { λ _. ⌜ now (out .exit) ≡ recordedOut route n hops (now (x .entry)) (now (out .entry)) ⌝ }
@@ -28,7 +28,7 @@ pub fn analyse_recording(route: Route, n: usize, hops: usize, x: &[i16], out: &m
     0
 }
 
-// The samples of a recording of `hops` hops, from a fresh stream. 1: n is not tabled. 2: as above. 3: a coefficient is out of range,
+// The samples of a recording of `hops` hops, from a fresh stream, with long joints. 1: n is not tabled. 2: as above. 3: a coefficient is out of range,
 // wherever it stands. Refused, `out` is left alone.
 pub fn synthesise_recording(n: usize, hops: usize, x: &[i32], out: &mut [i16]) -> u32
     ensures { λ r. ⌜ r ≡ playedCode n hops (now (x .entry)) (now (out .entry)) ⌝ }

@@ -88,13 +88,13 @@ pub record Given (N : ℕ) (y : List ℤ) : Type 0 where
   pub all : length y ≡ N
   pub small : Small y (2 ^ 23)
 
--- they are the block x, windowed
-pub record Windowed (N : ℕ) (x block : List ℤ) : Type 0 where
+-- they are the block x, windowed by joints of these shapes
+pub record Windowed (N l r : ℕ) (x block : List ℤ) : Type 0 where
   pub given : Given N block
-  pub is : block ≡ table N (y N (at (riseList N)) (at (fallList N)) x)
+  pub is : block ≡ table N (y N (at (riseList l N)) (at (fallList r N)) x)
 
-pub windowed-length : (N : ℕ) (x block : List ℤ) → block ≡ table N (y N (at (riseList N)) (at (fallList N)) x) → length block ≡ N
-windowed-length N x block e = ap length e ∙ length-table (y N (at (riseList N)) (at (fallList N)) x) N
+pub windowed-length : (N l r : ℕ) (x block : List ℤ) → block ≡ table N (y N (at (riseList l N)) (at (fallList r N)) x) → length block ≡ N
+windowed-length N l r x block e = ap length e ∙ length-table (y N (at (riseList l N)) (at (fallList r N)) x) N
 
 -- w has the inputs of part k
 pub record Third (k N : ℕ) (y w : List ℤ) : Type 0 where

@@ -176,21 +176,21 @@ module _ (N : ℕ) (few : N ≤ 72) (y : ℕ → ℤ) (y≤ : (n : ℕ) → n < 
   pub minus-small : Small minus (2 ^ 58)
   minus-small = rw (u .minus-is) (table-small (N / 6) (2 ^ 58) (λ k. B N y k -ℤ D N y k) (λ k p. omega (arith, minus-size N y y≤ k, few)))
 
-pub windowed-step : (N : ℕ) (x : List ℤ) (n : ℕ) (left right block : List ℤ) → n ≡ N → left ≡ riseList N → right ≡ fallList N →
-    block ≡ table n (y n (at left) (at right) x) → block ≡ table N (y N (at (riseList N)) (at (fallList N)) x)
-windowed-step N x n left right block e l r w = rw (e, l, r) at w
+pub windowed-step : (N l r : ℕ) (x : List ℤ) (n : ℕ) (left right block : List ℤ) → n ≡ N → left ≡ riseList l N → right ≡ fallList r N →
+    block ≡ table n (y n (at left) (at right) x) → block ≡ table N (y N (at (riseList l N)) (at (fallList r N)) x)
+windowed-step N l r x n left right block e p q w = rw (e, p, q) at w
 
-pub short-step : (N : ℕ) → Length N → (x : List ℤ) (m : ℕ) (block middle plus minus out : List ℤ) →
-    m ≡ N / 6 → block ≡ table N (y N (at (riseList N)) (at (fallList N)) x) → Unrounded N (at block) middle plus minus →
-    out ≡ table (3 * m) (interleaved middle plus minus) → out ≡ short N (y N (rising N) (falling N) x)
+pub short-step : (N l r : ℕ) → Length N → (x : List ℤ) (m : ℕ) (block middle plus minus out : List ℤ) →
+    m ≡ N / 6 → block ≡ table N (y N (at (riseList l N)) (at (fallList r N)) x) → Unrounded N (at block) middle plus minus →
+    out ≡ table (3 * m) (interleaved middle plus minus) → out ≡ short N (y N (rising l N) (falling r N) x)
 unfolding short
-short-step N l x m block middle plus minus out q is u h =
-    let half : 3 * m ≡ N / 2 = omega (arith, l .twelve) in
-    let lent = y N (at (riseList N)) (at (fallList N)) x in
+short-step N l r len x m block middle plus minus out q is u h =
+    let half : 3 * m ≡ N / 2 = omega (arith, len .twelve) in
+    let lent = y N (at (riseList l N)) (at (fallList r N)) x in
     rw half at h
-    ∙ table-ext (N / 2) (interleaved middle plus minus) (shortX N (at block)) (λ i p. interleaved-is N (at block) middle plus minus u i (omega (arith, l .twelve)))
-    ∙ short-ext N (at block) (y N (rising N) (falling N) x) (λ n p. rw is (getD-table lent (pos 0) N n p) ∙ y-lent N l x n p)
+    ∙ table-ext (N / 2) (interleaved middle plus minus) (shortX N (at block)) (λ i p. interleaved-is N (at block) middle plus minus u i (omega (arith, len .twelve)))
+    ∙ short-ext N (at block) (y N (rising l N) (falling r N) x) (λ n p. rw is (getD-table lent (pos 0) N n p) ∙ y-lent N l r len x n p)
 
 -- the same at a length under another name
-pub short-at : (n N : ℕ) (x out : List ℤ) → n ≡ N → out ≡ short N (y N (rising N) (falling N) x) → out ≡ short n (y n (rising n) (falling n) x)
-short-at n N x out e h = rw e h
+pub short-at : (n N l r : ℕ) (x out : List ℤ) → n ≡ N → out ≡ short N (y N (rising l N) (falling r N) x) → out ≡ short n (y n (rising l n) (falling r n) x)
+short-at n N l r x out e h = rw e h

@@ -73,18 +73,18 @@ fn window_hop(size: usize, half: &[i32], x: &[i16], out: &mut [i32])
 }
 
 // y(0) .. y(N-1): the first hop by the rising half, the second by the falling half.
-pub fn windowed_block(size: usize, left: &[i32], right: &[i32], x: &[i16], out: &mut [i32])
-    requires { ⌜ length (now left) ≡ length (now right) ⌝ }
-    requires { ⌜ length (now x) ≡ 2 * length (now left) ⌝ }
+pub fn windowed_block(size: usize, rise: &[i32], fall: &[i32], x: &[i16], out: &mut [i32])
+    requires { ⌜ length (now rise) ≡ length (now fall) ⌝ }
+    requires { ⌜ length (now x) ≡ 2 * length (now rise) ⌝ }
     requires { ⌜ length (now out) ≡ length (now x) ⌝ }
-    requires { ⌜ WindowHalf (now left) ⌝ }
-    requires { ⌜ WindowHalf (now right) ⌝ }
-    ensures { λ _. ⌜ now (out .exit) ≡ weighted (now (left .entry)) (now (right .entry)) (now (x .entry)) ⌝ }
+    requires { ⌜ WindowHalf (now rise) ⌝ }
+    requires { ⌜ WindowHalf (now fall) ⌝ }
+    ensures { λ _. ⌜ now (out .exit) ≡ weighted (now (rise .entry)) (now (fall .entry)) (now (x .entry)) ⌝ }
     ensures { λ _. ⌜ Small (now (out .exit)) (2 ^ 23) ⌝ }
 {
-    let m = left.len();
-    window_hop(size, left, &x[..m], &mut out[..m]);
-    window_hop(size, right, &x[m..], &mut out[m..]);
+    let m = rise.len();
+    window_hop(size, rise, &x[..m], &mut out[..m]);
+    window_hop(size, fall, &x[m..], &mut out[m..]);
 }
 
 // A sum of the split, divided by 2^k.

@@ -14,8 +14,8 @@ ghost use Rattle.tables.specs.HalfLaws.{Lent};
 ghost use Rattle.split.specs.ShortRoute.{offered, Unrounded, short};
 ghost use Rattle.split.specs.PartLaws.{Windowed};
 
-// From this length on products of lifted numbers and of 16 bits pay, which the vector unit makes several at a time. Products of shorter blocks are of
-// 64 bits.
+// From this length on a rotation by lifted numbers pays, and a window by products of 16 bits: the vector unit makes several of either at a time. Products of
+// shorter blocks are of 64 bits.
 const LONG: usize = 36;
 
 // The lengths at which the short route is offered.
@@ -34,21 +34,31 @@ pub fn is_offered(n: usize) -> bool
     n == 72
 }
 
-// The block, windowed. The length's window is lent.
+// The block, windowed. The halves of its joints are lent, by the shapes of the left one and the right one.
 // A length's function calls this, its split and the next one by itself, so that the compiler knows every count.
-pub fn windowed_block(n: usize, left: &[i32], right: &[i32], x: &[i16], block: &mut [i32])
-    requires { ⌜ Lent n (now left) (now right) ⌝ }
+pub fn windowed_block(
+    n: usize,
+    left: u32,
+    right: u32,
+    rise: &[i32],
+    fall: &[i32],
+    x: &[i16],
+    block: &mut [i32],
+)
+    requires { ⌜ Lent n left right (now rise) (now fall) ⌝ }
     requires { ⌜ n ≤ 72 ⌝ }
     requires { ⌜ length (now x) ≡ n ⌝ }
     requires { ⌜ length (now block) ≡ n ⌝ }
-    ensures { λ _. ⌜ Windowed n (now (x .entry)) (now (block .exit)) ⌝ }
+    ensures { λ _. ⌜ Windowed n left right (now (x .entry)) (now (block .exit)) ⌝ }
 {
-    block::windowed_block(n, left, right, x, block);
+    block::windowed_block(n, rise, fall, x, block);
 }
 
 // The coefficients of a block x from the sums of its split, `block` being the block windowed.
 pub fn short_block(
     n: usize,
+    left: u32,
+    right: u32,
     x: &[i16],
     block: &[i32],
     a: &[i64],
@@ -56,10 +66,10 @@ pub fn short_block(
     minus: &[i64],
     out: &mut [i32],
 )
-    requires { ⌜ Windowed n (now x) (now block) ⌝ }
+    requires { ⌜ Windowed n left right (now x) (now block) ⌝ }
     requires { ⌜ Unrounded n (at (now block)) (now a) (now plus) (now minus) ⌝ }
     requires { ⌜ length (now out) ≡ n / 2 ⌝ }
-    ensures { λ _. ⌜ now (out .exit) ≡ short n (y n (rising n) (falling n) (now (x .entry))) ⌝ }
+    ensures { λ _. ⌜ now (out .exit) ≡ short n (y n (rising left n) (falling right n) (now (x .entry))) ⌝ }
 {
     block::coefficients(a, plus, minus, out);
 }

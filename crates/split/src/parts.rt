@@ -1,5 +1,5 @@
-// The parts of N/3 that a split makes: a part's inputs, folded to half their number and lifted, and the sums of three parts with their kernel at once,
-// so that each number of the kernel is read for all three.
+// The parts of N/3 that a split makes: the sums of a part by itself or, where a part is long, its inputs, folded to half their number and lifted, and the sums
+// of three parts with their kernel at once, so that each number of the kernel is read for all three.
 ghost use mathlib.Core.Path.{_≡_};
 ghost use Prim.Native.Nat.{_*_, _/_, _^_, _<_};
 ghost use lib.ListN.{length};

@@ -23,8 +23,8 @@ use Rattle.stream.specs.NextLaws.{next-long}
 use Rattle.checks.specs.Causes.{First}
 use Rattle.checks.specs.CauseLaws.{first-is, is-first, same, differs, spared, Passed, passed, leaves}
 use Rattle.stream_calls.specs.Streams as S
-use Rattle.stream_calls.specs.StreamLaws.{step-number, step-tabled}
-use Rattle.state_calls.specs.States.{entries, none, numberIn, streamIn, stateOf, freshCauses, freshCode, freshState, stepCauses, stepCode, stepState, stepOut}
+use Rattle.stream_calls.specs.StreamLaws.{step-number, step-tabled, step-shape}
+use Rattle.state_calls.specs.States.{entries, none, numberIn, shapeIn, streamIn, stateOf, freshCauses, freshCode, freshState, stepCauses, stepCode, stepState, stepOut}
 
 -- ---- numbers in entries
 number-pos : (n other : ℕ) → numberIn (pos n) other ≡ n
@@ -37,9 +37,14 @@ unfolding numberIn
 number-own (pos n) h = rw (le-ltb n 0 (omega arith))
 number-own (negsuc n) h = absurd (h refl)
 
-pub state-holds : (s : Stream) → streamIn (stateOf s) ≡ s
+shape-pos : (n : ℕ) → n ≤ 1 → shapeIn (pos n) ≡ n
+unfolding shapeIn
+shape-pos n h = rw (le-ltb n 0 (omega arith), le-ltb 1 n h)
+
+-- of a stream with a shape
+pub state-holds : (s : Stream) → s .shape ≤ 1 → streamIn (stateOf s) ≡ s
 unfolding streamIn stateOf
-state-holds s = rw (number-pos (s .n) 0, number-pos (s .expected) none)
+state-holds s h = rw (number-pos (s .n) 0, number-pos (s .expected) none, shape-pos (s .shape) h)
 
 -- ---- a fresh state: N written to one of zeros
 pub fresh-made : (N : ℕ) → set (table entries (λ _. pos 0)) 0 (pos N) ≡ stateOf (Y.fresh N)
@@ -63,95 +68,96 @@ module _ (N : ℕ) (state : List ℤ) where
 
     pub fresh-holds : streamIn (freshState N state) ≡ S.fresh N .stream
     unfolding S.fresh
-    fresh-holds = let e : tabled N ≡ true = is-true fresh-tabled in rw (taken-state, e) (state-holds (Y.fresh N))
+    fresh-holds = let e : tabled N ≡ true = is-true fresh-tabled in rw (taken-state, e) (unfold Y.fresh in state-holds (Y.fresh N) (omega arith))
 
     pub fresh-long : length (freshState N state) ≡ entries
     unfolding stateOf Y.fresh
     fresh-long = rw taken-state (let e = length-replicate Y.storage (pos 0) in omega (arith, e))
 
--- ---- what the code writes: ys behind the first two entries, and v in the second
-pub put-tail : (xs ys : List ℤ) → putMid 2 (length xs - 2) xs ys ≡ take 2 xs ++ ys
+-- ---- what the code writes: ys behind the first three entries, v in the second and w in the third
+pub put-tail : (xs ys : List ℤ) → putMid 3 (length xs - 3) xs ys ≡ take 3 xs ++ ys
 put-tail xs ys =
-    let e : drop (length xs - 2) (drop 2 xs) ≡ [] = drop-of-length-le (drop 2 xs) {i = length xs - 2} (omega (arith, length-drop 2 xs)) in
-    ap (λ (z : List ℤ). take 2 xs ++ z) (ap (λ (z : List ℤ). ys ++ z) e ∙ append-nil ys)
+    let e : drop (length xs - 3) (drop 3 xs) ≡ [] = drop-of-length-le (drop 3 xs) {i = length xs - 3} (omega (arith, length-drop 3 xs)) in
+    ap (λ (z : List ℤ). take 3 xs ++ z) (ap (λ (z : List ℤ). ys ++ z) e ∙ append-nil ys)
 
-set-second : (xs ys : List ℤ) (v : ℤ) → 2 ≤ length xs → set (take 2 xs ++ ys) 1 v ≡ at xs 0 ∷ v ∷ ys
-set-second [] ys v h = absurd (not-suc-le-zero h)
-set-second (a ∷ []) ys v h = absurd (omega arith)
-set-second (a ∷ b ∷ xs) ys v h = refl
+set-both : (xs ys : List ℤ) (v w : ℤ) → 3 ≤ length xs → set (set (take 3 xs ++ ys) 1 v) 2 w ≡ at xs 0 ∷ v ∷ w ∷ ys
+set-both [] ys v w h = absurd (not-suc-le-zero h)
+set-both (a ∷ []) ys v w h = absurd (omega arith)
+set-both (a ∷ b ∷ []) ys v w h = absurd (omega arith)
+set-both (a ∷ b ∷ c ∷ xs) ys v w h = refl
 
 -- ---- a step
-module _ (state : List ℤ) (number : ℕ) (x out : List ℤ) where
+module _ (state : List ℤ) (number l r : ℕ) (x out : List ℤ) where
   abbrev s : Stream
   s = streamIn state
 
   abbrev code : ℕ
-  code = stepCode state number x out
+  code = stepCode state number l r x out
 
-  pub step-2 : length state ≢ entries → (2 ≡ code) × ((state ≡ stepState state number x out) × (out ≡ stepOut state number x out))
+  pub step-2 : length state ≢ entries → (2 ≡ code) × ((state ≡ stepState state number l r x out) × (out ≡ stepOut state number l r x out))
   unfolding stepCode stepCauses stepState stepOut
   step-2 a =
-      let cs = stepCauses state number x out in
+      let cs = stepCauses state number l r x out in
       let f : First cs 2 = differs a in
-      (sym (first-is cs f), (leaves cs (stateOf (next s x)) state f, leaves cs (hop s x) out f))
+      (sym (first-is cs f), (leaves cs (stateOf (next s l r x)) state f, leaves cs (hop s l r x) out f))
 
   -- on a state of the right length it is `step` by value
   module _ (a : length state ≡ entries) where
-    pub same-code : code ≡ S.stepCode s number x out
+    pub same-code : code ≡ S.stepCode s number l r x out
     unfolding stepCode stepCauses S.stepCode
-    same-code = first-is (stepCauses state number x out) (same a (is-first (S.stepCauses s number x out)))
+    same-code = first-is (stepCauses state number l r x out) (same a (is-first (S.stepCauses s number l r x out)))
 
-    pub same-out : stepOut state number x out ≡ S.stepOut s number x out
+    pub same-out : stepOut state number l r x out ≡ S.stepOut s number l r x out
     unfolding stepOut S.stepOut
     same-out = rw same-code
 
-    pub same-stream : streamIn (stepState state number x out) ≡ S.step s number x out .stream
+    pub same-stream : streamIn (stepState state number l r x out) ≡ S.step s number l r x out .stream
     unfolding stepState S.step
-    same-stream = rw same-code (by-test (eqb (S.stepCode s number x out) 0))
+    same-stream = rw same-code (by-test (eqb (S.stepCode s number l r x out) 0) refl)
       where
-        by-test : (b : Bool) → streamIn (cond b (stateOf (next s x)) state) ≡ cond b (next s x) s
-        by-test true = state-holds (next s x)
-        by-test false = refl
+        by-test : (b : Bool) → eqb (S.stepCode s number l r x out) 0 ≡ b → streamIn (cond b (stateOf (next s l r x)) state) ≡ cond b (next s l r x) s
+        by-test true e = state-holds (next s l r x) (unfold next in step-shape s number l r x out (eqb→eq (S.stepCode s number l r x out) 0 (rw e tt)))
+        by-test false e = refl
 
-    pub refused-state : code ≢ 0 → take 2 state ++ S.step s number x out .stream .tail ≡ stepState state number x out
+    pub refused-state : code ≢ 0 → take 3 state ++ S.step s number l r x out .stream .tail ≡ stepState state number l r x out
     unfolding stepState S.step streamIn
     refused-state n =
         let e = ne-eqb code 0 n in
-        let f = ne-eqb (S.stepCode s number x out) 0 (λ z. n (same-code ∙ z)) in
-        rw (e, f) (take-append-drop 2 state)
+        let f = ne-eqb (S.stepCode s number l r x out) 0 (λ z. n (same-code ∙ z)) in
+        rw (e, f) (take-append-drop 3 state)
 
     module _ (z : code ≡ 0) where
-      zero-code : S.stepCode s number x out ≡ 0
+      zero-code : S.stepCode s number l r x out ≡ 0
       zero-code = sym same-code ∙ z
 
       taken-tabled : T (tabled (s .n))
-      taken-tabled = step-tabled s number x out zero-code
+      taken-tabled = step-tabled s number l r x out zero-code
 
       pub taken-number : number ≡ s .expected
-      taken-number = step-number s number x out zero-code
+      taken-number = step-number s number l r x out zero-code
 
       -- N is as it was
       own : at state 0 ≡ pos (s .n)
       unfolding streamIn
       own = number-own (at state 0) (λ e. let h = length-of (s .n) taken-tabled .some in absurd (omega (arith, h, e)))
 
-      pub taken-state-is : set (take 2 state ++ S.step s number x out .stream .tail) 1 (pos (number + 1)) ≡ stepState state number x out
+      pub taken-state-is : set (set (take 3 state ++ S.step s number l r x out .stream .tail) 1 (pos (number + 1))) 2 (pos r) ≡ stepState state number l r x out
       unfolding stepState S.step stateOf next
       taken-state-is =
           let e = own in
           let f = taken-number in
-          set-second state (S.step s number x out .stream .tail) (pos (number + 1)) (omega (arith, a)) ∙ rw (z, zero-code, e, f)
+          set-both state (S.step s number l r x out .stream .tail) (pos (number + 1)) (pos r) (omega (arith, a)) ∙ rw (z, zero-code, e, f)
 
-      taken-long : length (stateOf (next s x)) ≡ entries
+      taken-long : length (stateOf (next s l r x)) ≡ entries
       unfolding stateOf streamIn
       taken-long =
-          let l : length (s .tail) ≡ Y.storage = omega (arith, length-drop 2 state, a) in
-          omega (arith, l, next-long (s .n) s refl x (omega (arith, l, length-of (s .n) taken-tabled .most)))
+          let stored : length (s .tail) ≡ Y.storage = omega (arith, length-drop 3 state, a) in
+          omega (arith, stored, next-long (s .n) s refl l r x (omega (arith, stored, length-of (s .n) taken-tabled .most)))
 
-    pub same-long : length (stepState state number x out) ≡ entries
+    pub same-long : length (stepState state number l r x out) ≡ entries
     unfolding stepState
     same-long = by-test (eqb code 0) refl
       where
-        by-test : (b : Bool) → eqb code 0 ≡ b → length (cond b (stateOf (next s x)) state) ≡ entries
+        by-test : (b : Bool) → eqb code 0 ≡ b → length (cond b (stateOf (next s l r x)) state) ≡ entries
         by-test true e = taken-long (eqb→eq code 0 (rw e tt))
         by-test false e = a

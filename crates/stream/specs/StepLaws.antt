@@ -12,7 +12,7 @@ use Rattle.arithmetic.specs.QuotientLaws.{splits}
 use Rattle.arithmetic.specs.ListLaws.{table-ext, getD-table, length-table}
 use Rattle.cosine.specs.Kernels.{tabled, rising, falling}
 use Rattle.cosine.specs.LengthLaws.{Part}
-use Rattle.cosine.specs.KernelLaws.{W-size}
+use Rattle.cosine.specs.KernelLaws.{rising-size, falling-size}
 use Rattle.transform.specs.Synthesis.{V′}
 use Rattle.transform.specs.Stages.{Ready}
 use Rattle.transform.specs.SizeLaws.{V-size}
@@ -41,20 +41,11 @@ pub record Step (N : ℕ) (x tail out : List ℤ) : Type 0 where
 abbrev pub Valid : ℕ → List ℤ → List ℤ → List ℤ → Type 0
 Valid N x tail out = T (tabled N) × (length x ≡ N / 2) × Small x (2 ^ 29) × (length tail ≡ storage) × Bounded (N / 2) tail × (length out ≡ N / 2)
 
--- ---- the two halves of the window
-pub rising-size : (N n : ℕ) → natAbs (rising N n) ≤ 2 ^ 26
-unfolding rising
-rising-size N n = W-size N n
-
-pub falling-size : (N n : ℕ) → natAbs (falling N n) ≤ 2 ^ 26
-unfolding falling
-falling-size N n = W-size N (N / 2 + n)
-
 -- ---- V as the code has it
-module _ (N : ℕ) (t : Part N) (X vl : List ℤ) (small : (k : ℕ) → k < N / 2 → natAbs (at X k) ≤ 2 ^ 29)
-    (is : vl ≡ table N (V′ N (rising N) (falling N) X)) where
+module _ (N l r : ℕ) (t : Part N) (X vl : List ℤ) (small : (k : ℕ) → k < N / 2 → natAbs (at X k) ≤ 2 ^ 29)
+    (is : vl ≡ table N (V′ N (rising l N) (falling r N) X)) where
   abbrev values : ℕ → ℤ
-  values = V′ N (rising N) (falling N) X
+  values = V′ N (rising l N) (falling r N) X
 
   two : N / 2 + N / 2 ≡ N
   two = omega (arith, t .four)
@@ -68,25 +59,25 @@ module _ (N : ℕ) (t : Part N) (X vl : List ℤ) (small : (k : ℕ) → k < N /
   pub values-bounded : Bounded (N / 2) vl
   values-bounded = record {
     within = λ i p. rw (entry i (omega arith))
-        (V-size N (rising N) (falling N) t (λ n q. rising-size N n) (λ n q. falling-size N n) X small i (omega arith));
+        (V-size N (rising l N) (falling r N) t (λ n q. rising-size l N n) (λ n q. falling-size r N n) X small i (omega arith));
   }
 
-  pub hop-step : (tail out : List ℤ) → out ≡ table (N / 2) (λ i. clamp (rnd (at tail i +ℤ at vl i) (N * 2 ^ 30))) → out ≡ hop N (rising N) (falling N) tail X
+  pub hop-step : (tail out : List ℤ) → out ≡ table (N / 2) (λ i. clamp (rnd (at tail i +ℤ at vl i) (N * 2 ^ 30))) → out ≡ hop N (rising l N) (falling r N) tail X
   unfolding hop sample
   hop-step tail out h =
       h
       ∙ table-ext (N / 2) (λ i. clamp (rnd (at tail i +ℤ at vl i) (N * 2 ^ 30))) (λ i. clamp (rnd (at tail i +ℤ values i) (N * 2 ^ 30)))
       (λ i p. ap (λ (z : ℤ). clamp (rnd (at tail i +ℤ z) (N * 2 ^ 30))) (entry i (omega arith)))
 
-  pub tail-step : (tail r : List ℤ) → r ≡ table (N / 2) (λ i. at vl (N / 2 + i)) ++ drop (N / 2) tail → r ≡ newTail N (rising N) (falling N) tail X
+  pub tail-step : (tail new : List ℤ) → new ≡ table (N / 2) (λ i. at vl (N / 2 + i)) ++ drop (N / 2) tail → new ≡ newTail N (rising l N) (falling r N) tail X
   unfolding newTail
-  tail-step tail r h =
+  tail-step tail new h =
       h
       ∙ ap (λ (l : List ℤ). l ++ drop (N / 2) tail)
       (table-ext (N / 2) (λ i. at vl (N / 2 + i)) (λ i. values (N / 2 + i)) (λ i p. entry (N / 2 + i) (omega (arith, two))))
 
 -- ---- a step at a length under another name, of the part of the coefficients that is lent, which is all of them
-pub step-at : (n N : ℕ) (tail X X′ tail′ out : List ℤ) → n ≡ N → X′ ≡ X →
-    (tail′ ≡ newTail N (rising N) (falling N) tail X′) × (out ≡ hop N (rising N) (falling N) tail X′) →
-    (tail′ ≡ newTail n (rising n) (falling n) tail X) × (out ≡ hop n (rising n) (falling n) tail X)
-step-at n N tail X X′ tail′ out e w h = rw (e, sym w) h
+pub step-at : (n N l r : ℕ) (tail X X′ tail′ out : List ℤ) → n ≡ N → X′ ≡ X →
+    (tail′ ≡ newTail N (rising l N) (falling r N) tail X′) × (out ≡ hop N (rising l N) (falling r N) tail X′) →
+    (tail′ ≡ newTail n (rising l n) (falling r n) tail X) × (out ≡ hop n (rising l n) (falling r n) tail X)
+step-at n N l r tail X X′ tail′ out e w h = rw (e, sym w) h

@@ -1,4 +1,4 @@
--- The synthesis stream: definitions. Document 01, 'Synthesis stream'. left and right are the halves of the block's joints.
+-- The synthesis stream: definitions. Document 01, 'Synthesis stream', and document 02, P6 and P7. left and right are the halves of the block's joints.
 use mathlib.Core.List.{List, _++_}
 use Prim.Native.Nat.{ℕ, _+_, _*_, _/_, _^_}
 use lib.ListN.{drop, replicate}
@@ -12,9 +12,9 @@ use Rattle.stream.specs.declared.Stream.{Stream}
 abbrev pub storage : ℕ
 storage = 108
 
--- a fresh stream expects block 0, and has a tail of zeros
+-- a fresh stream expects block 0 and a long joint, and has a tail of zeros
 unfoldable pub fresh : ℕ → Stream
-fresh N = record { n = N; expected = 0; tail = replicate storage (pos 0) }
+fresh N = record { n = N; expected = 0; shape = 0; tail = replicate storage (pos 0) }
 
 -- hop sample n, for n below M: rnd((tail(n) + V(n)) / (N × 2^30)), clamped
 unfoldable pub sample : ℕ → (ℕ → ℤ) → (ℕ → ℤ) → List ℤ → List ℤ → ℕ → ℤ

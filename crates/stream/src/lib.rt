@@ -18,10 +18,11 @@ ghost use Rattle.stream.specs.StepLaws.{Held, Step};
 pub const STORAGE: usize = 108;
 
 // A stream, document 01's term: the block length N, the number of the block that it expects (document 02, P6; 2^32 for none, behind the last number of 32
-// bits) and a tail of M whole numbers. Storage from M on is zero when fresh, and kept.
+// bits), the shape of the joint that it ends with (P7), and a tail of M whole numbers. Storage from M on is zero when fresh, and kept.
 pub struct Stream {
     pub n: usize,
     pub expected: u64,
+    pub shape: u32,
     pub tail: [i64; STORAGE],
 }
 
@@ -31,6 +32,7 @@ pub fn fresh(n: usize) -> Stream
     Stream {
         n: n,
         expected: 0,
+        shape: 0,
         tail: [0; STORAGE],
     }
 }
@@ -72,12 +74,20 @@ fn shift(m: usize, v: &[i64], tail: &mut [i64])
     }
 }
 
-// A step from V, of the coefficients x: the hop into `out`, and the new tail in place.
-pub fn settle(n: usize, x: &[i32], v: &[i64], tail: &mut [i64], out: &mut [i16])
+// A step from V, of the coefficients x of a block with joints of the shapes left and right: the hop into `out`, and the new tail in place.
+pub fn settle(
+    n: usize,
+    left: u32,
+    right: u32,
+    x: &[i32],
+    v: &[i64],
+    tail: &mut [i64],
+    out: &mut [i16],
+)
     requires { ⌜ Step n (now x) (now tail) (now out) ⌝ }
-    requires { ⌜ now v ≡ table n (V′ n (rising n) (falling n) (now x)) ⌝ }
-    ensures { λ _. ⌜ now (tail .exit) ≡ newTail n (rising n) (falling n) (now (tail .entry)) (now (x .entry)) ⌝ }
-    ensures { λ _. ⌜ now (out .exit) ≡ hop n (rising n) (falling n) (now (tail .entry)) (now (x .entry)) ⌝ }
+    requires { ⌜ now v ≡ table n (V′ n (rising left n) (falling right n) (now x)) ⌝ }
+    ensures { λ _. ⌜ now (tail .exit) ≡ newTail n (rising left n) (falling right n) (now (tail .entry)) (now (x .entry)) ⌝ }
+    ensures { λ _. ⌜ now (out .exit) ≡ hop n (rising left n) (falling right n) (now (tail .entry)) (now (x .entry)) ⌝ }
 {
     fill_hop(n, tail, v, out);
     shift(n / 2, v, tail);

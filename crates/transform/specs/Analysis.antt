@@ -10,11 +10,11 @@ use Rattle.arithmetic.specs.Lists.{at, table}
 use Rattle.cosine.specs.Kernels.{K}
 
 -- the window of a block: the rising half of its left joint over the first hop, the falling half of its right joint over the second.
--- With the halves of the sine window it is W
+-- With the halves of long joints it is W
 unfoldable pub window : ℕ → (ℕ → ℤ) → (ℕ → ℤ) → ℕ → ℤ
 window N left right n = cond (ltb n (N / 2)) (left n) (right (n - N / 2))
 
--- y(n) = rnd(W(n) × x(n) / 2^18)
+-- y(n) = rnd(W(n) × x(n) / 2^18), with the block's window for W
 unfoldable pub y : ℕ → (ℕ → ℤ) → (ℕ → ℤ) → List ℤ → ℕ → ℤ
 y N left right x n = rnd (window N left right n *ℤ at x n) (2 ^ 18)
 

@@ -43,8 +43,8 @@ unfolding direct X
 direct-ext N u v e = table-ext (N / 2) (X N u) (X N v) (λ k p. ap (λ (z : ℤ). rnd z (2 ^ 28)) (S-ext N u v e k))
 
 -- with the lists that the code lends
-pub y-lent : (N : ℕ) → Length N → (x : List ℤ) (n : ℕ) → n < N → y N (at (riseList N)) (at (fallList N)) x n ≡ y N (rising N) (falling N) x n
-y-lent N t x = y-ext N (from N t) (at (riseList N)) (at (fallList N)) (rising N) (falling N) x (rise-at N) (fall-at N)
+pub y-lent : (N l r : ℕ) → Length N → (x : List ℤ) (n : ℕ) → n < N → y N (at (riseList l N)) (at (fallList r N)) x n ≡ y N (rising l N) (falling r N) x n
+y-lent N l r t x = y-ext N (from N t) (at (riseList l N)) (at (fallList r N)) (rising l N) (falling r N) x (rise-at l N) (fall-at r N)
 
 -- the sums of the folded block with the kernel are S, and their rounded quotients the coefficients
 pub S-folds : (N : ℕ) → Part N → (u : ℕ → ℤ) (k : ℕ) → folds N (table (N / 2) (folded N u)) k ≡ S N u k
@@ -61,25 +61,25 @@ direct-folded N t u =
     (λ k p. ap (λ (z : ℤ). rnd z (2 ^ 28)) (S-folds N (from N t) u k))
 
 -- ---- what the code has, step by step: the lists that are lent, the folded block, the coefficients
-module _ (N : ℕ) (t : Length N) (x : List ℤ) where
+module _ (N l r : ℕ) (t : Length N) (x : List ℤ) where
   abbrev lent : ℕ → ℤ
-  lent = y N (at (riseList N)) (at (fallList N)) x
+  lent = y N (at (riseList l N)) (at (fallList r N)) x
 
-  pub folded-step : (m : ℕ) (left right z : List ℤ) → m ≡ N / 2 → left ≡ riseList N → right ≡ fallList N →
+  pub folded-step : (m : ℕ) (left right z : List ℤ) → m ≡ N / 2 → left ≡ riseList l N → right ≡ fallList r N →
       z ≡ table m (folded (2 * m) (y (2 * m) (at left) (at right) x)) → z ≡ table (N / 2) (folded N lent)
-  folded-step m left right z e l r h =
+  folded-step m left right z e p q h =
       let two : 2 * (N / 2) ≡ N = omega (arith, t .twelve) in
-      rw (e, two, l, r) at h
+      rw (e, two, p, q) at h
 
   pub direct-step : (m : ℕ) (z s out : List ℤ) → m ≡ N / 2 → z ≡ table (N / 2) (folded N lent) → s ≡ table (N / 2) (folds N z) →
-      out ≡ table m (λ k. rnd (at s k) (2 ^ 28)) → out ≡ direct N (y N (rising N) (falling N) x)
+      out ≡ table m (λ k. rnd (at s k) (2 ^ 28)) → out ≡ direct N (y N (rising l N) (falling r N) x)
   direct-step m z s out e f g h =
       rw e at h
       ∙ table-ext (N / 2) (λ k. rnd (at s k) (2 ^ 28)) (λ k. rnd (folds N (table (N / 2) (folded N lent)) k) (2 ^ 28))
       (λ k p. ap (λ (z : ℤ). rnd z (2 ^ 28)) (ap (λ (l : List ℤ). at l k) g ∙ getD-table (folds N z) (pos 0) (N / 2) k p ∙ ap (λ (l : List ℤ). folds N l k) f))
       ∙ direct-folded N t lent
-      ∙ direct-ext N lent (y N (rising N) (falling N) x) (y-lent N t x)
+      ∙ direct-ext N lent (y N (rising l N) (falling r N) x) (y-lent N l r t x)
 
 -- the same at a length under another name
-pub direct-at : (n N : ℕ) (x out : List ℤ) → n ≡ N → out ≡ direct N (y N (rising N) (falling N) x) → out ≡ direct n (y n (rising n) (falling n) x)
-direct-at n N x out e h = rw e h
+pub direct-at : (n N l r : ℕ) (x out : List ℤ) → n ≡ N → out ≡ direct N (y N (rising l N) (falling r N) x) → out ≡ direct n (y n (rising l n) (falling r n) x)
+direct-at n N l r x out e h = rw e h

@@ -185,13 +185,13 @@ rounded-small t r h s = record {
 from : (N : ℕ) → Length N → Part N
 from N t = record { four = omega (arith, t .twelve); parts = t .parts; some = t .some }
 
-module _ (N : ℕ) (t : Length N) (X : List ℤ) where
-  pub value-step : (left right s v : List ℤ) (n : ℕ) → n ≡ N → left ≡ riseList N → right ≡ fallList N → s ≡ table (N / 2) (rounds N X) →
-      v ≡ table n (valueAt left right s) → v ≡ table N (V′ N (rising N) (falling N) X)
-  value-step left right s v n e l r f h =
+module _ (N l r : ℕ) (t : Length N) (X : List ℤ) where
+  pub value-step : (left right s v : List ℤ) (n : ℕ) → n ≡ N → left ≡ riseList l N → right ≡ fallList r N → s ≡ table (N / 2) (rounds N X) →
+      v ≡ table n (valueAt left right s) → v ≡ table N (V′ N (rising l N) (falling r N) X)
+  value-step left right s v n e p q f h =
       let two : 2 * (N / 2) ≡ N = omega (arith, t .twelve) in
-      rw (e, l, r) at h
-      ∙ table-ext N (valueAt (riseList N) (fallList N) s) (V′ N (at (riseList N)) (at (fallList N)) X)
-      (λ n p. rw two at (value-is (N / 2)) (from N t) (riseList N) (fallList N) s X f n p)
-      ∙ table-ext N (V′ N (at (riseList N)) (at (fallList N)) X) (V′ N (rising N) (falling N) X)
-      (V-ext N (from N t) (at (riseList N)) (at (fallList N)) (rising N) (falling N) X (rise-at N) (fall-at N))
+      rw (e, p, q) at h
+      ∙ table-ext N (valueAt (riseList l N) (fallList r N) s) (V′ N (at (riseList l N)) (at (fallList r N)) X)
+      (λ n p. rw two at (value-is (N / 2)) (from N t) (riseList l N) (fallList r N) s X f n p)
+      ∙ table-ext N (V′ N (at (riseList l N)) (at (fallList r N)) X) (V′ N (rising l N) (falling r N) X)
+      (V-ext N (from N t) (at (riseList l N)) (at (fallList r N)) (rising l N) (falling r N) X (rise-at l N) (fall-at r N))

@@ -18,10 +18,10 @@ use Rattle.transform.specs.FoldLaws.{folded}
 use Rattle.transform.specs.InverseLaws.{folds}
 use Rattle.transform.specs.LiftLaws.{folds-abs}
 
--- z is the block x, windowed and folded
-pub record Folded (N : ℕ) (x z : List ℤ) : Type 0 where
+-- z is the block x, windowed by joints of these shapes, and folded
+pub record Folded (N l r : ℕ) (x z : List ℤ) : Type 0 where
   pub whole : Length N
-  pub is : z ≡ table (N / 2) (folded N (y N (at (riseList N)) (at (fallList N)) x))
+  pub is : z ≡ table (N / 2) (folded N (y N (at (riseList l N)) (at (fallList r N)) x))
   pub small : Small z (2 ^ 24)
 
 -- x can be summed with the folded kernel
@@ -102,14 +102,14 @@ sums-of N x t i e =
           };
     }
 
-pub folded-ready : (N : ℕ) (x z : List ℤ) → Folded N x z → Ready N z
-folded-ready N x z f =
+pub folded-ready : (N l r : ℕ) (x z : List ℤ) → Folded N l r x z → Ready N z
+folded-ready N l r x z f =
     record {
       six = sixths-of N (f .whole);
       input =
           record {
             most = omega (arith, f .whole .most);
-            long = ap length (f .is) ∙ length-table (folded N (y N (at (riseList N)) (at (fallList N)) x)) (N / 2);
+            long = ap length (f .is) ∙ length-table (folded N (y N (at (riseList l N)) (at (fallList r N)) x)) (N / 2);
             small = record { small = λ i p. omega (arith, f .small .small i p) };
           };
     }

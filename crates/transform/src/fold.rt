@@ -34,55 +34,55 @@ pub fn windowed(half: &[i32], i: usize, x: &[i16], n: usize) -> i32
 const MIRRORED: i32 = -1;
 
 // Two places of the first hop: a sample less its mirrored one.
-fn difference(left: &[i32], x: &[i16], a: usize, b: usize) -> i32
-    requires { ⌜ WindowHalf (now left) ⌝ }
-    requires { ⌜ length (now left) ≤ length (now x) ⌝ }
-    requires { ⌜ a < length (now left) ⌝ }
-    requires { ⌜ b < length (now left) ⌝ }
-    ensures { λ r. ⌜ r ≡ windowed (now (left .entry)) a (now (x .entry)) a -ℤ windowed (now (left .entry)) b (now (x .entry)) b ⌝ }
+fn difference(rise: &[i32], x: &[i16], a: usize, b: usize) -> i32
+    requires { ⌜ WindowHalf (now rise) ⌝ }
+    requires { ⌜ length (now rise) ≤ length (now x) ⌝ }
+    requires { ⌜ a < length (now rise) ⌝ }
+    requires { ⌜ b < length (now rise) ⌝ }
+    ensures { λ r. ⌜ r ≡ windowed (now (rise .entry)) a (now (x .entry)) a -ℤ windowed (now (rise .entry)) b (now (x .entry)) b ⌝ }
     ensures { λ r. ⌜ natAbs r ≤ 2 ^ 24 ⌝ }
 {
-    windowed(left, a, x, a) + MIRRORED * windowed(left, b, x, b)
+    windowed(rise, a, x, a) + MIRRORED * windowed(rise, b, x, b)
 }
 
 // Two places of the second hop, which starts at m: a sample and its mirrored one, both with the sign changed.
-fn negated_sum(right: &[i32], x: &[i16], m: usize, a: usize, b: usize) -> i32
-    requires { ⌜ WindowHalf (now right) ⌝ }
-    requires { ⌜ m + length (now right) ≤ length (now x) ⌝ }
-    requires { ⌜ a < length (now right) ⌝ }
-    requires { ⌜ b < length (now right) ⌝ }
-    ensures { λ r. ⌜ r ≡ negℤ (windowed (now (right .entry)) a (now (x .entry)) (m + a)) -ℤ windowed (now (right .entry)) b (now (x .entry)) (m + b) ⌝ }
+fn negated_sum(fall: &[i32], x: &[i16], m: usize, a: usize, b: usize) -> i32
+    requires { ⌜ WindowHalf (now fall) ⌝ }
+    requires { ⌜ m + length (now fall) ≤ length (now x) ⌝ }
+    requires { ⌜ a < length (now fall) ⌝ }
+    requires { ⌜ b < length (now fall) ⌝ }
+    ensures { λ r. ⌜ r ≡ negℤ (windowed (now (fall .entry)) a (now (x .entry)) (m + a)) -ℤ windowed (now (fall .entry)) b (now (x .entry)) (m + b) ⌝ }
     ensures { λ r. ⌜ natAbs r ≤ 2 ^ 24 ⌝ }
 {
-    -windowed(right, a, x, m + a) - windowed(right, b, x, m + b)
+    -windowed(fall, a, x, m + a) - windowed(fall, b, x, m + b)
 }
 
 // Place j of the folded block.
-fn folded_at(left: &[i32], right: &[i32], x: &[i16], m: usize, j: usize) -> i32
-    requires { ⌜ Halves m (now left) (now right) ⌝ }
+fn folded_at(rise: &[i32], fall: &[i32], x: &[i16], m: usize, j: usize) -> i32
+    requires { ⌜ Halves m (now rise) (now fall) ⌝ }
     requires { ⌜ length (now x) ≡ 2 * m ⌝ }
     requires { ⌜ 2 * (m / 2) ≡ m ⌝ }
     requires { ⌜ j < m ⌝ }
-    ensures { λ r. ⌜ r ≡ hops m (now (left .entry)) (now (right .entry)) (now (x .entry)) j ⌝ }
+    ensures { λ r. ⌜ r ≡ hops m (now (rise .entry)) (now (fall .entry)) (now (x .entry)) j ⌝ }
     ensures { λ r. ⌜ natAbs r ≤ 2 ^ 24 ⌝ }
 {
     let h = m / 2;
     if j < h {
-        negated_sum(right, x, m, h - 1 - j, h + j)
+        negated_sum(fall, x, m, h - 1 - j, h + j)
     } else {
-        difference(left, x, j - h, 3 * h - 1 - j)
+        difference(rise, x, j - h, 3 * h - 1 - j)
     }
 }
 
-pub fn fold(left: &[i32], right: &[i32], x: &[i16], z: &mut [i32])
-    requires { ⌜ Halves (length (now z)) (now left) (now right) ⌝ }
+pub fn fold(rise: &[i32], fall: &[i32], x: &[i16], z: &mut [i32])
+    requires { ⌜ Halves (length (now z)) (now rise) (now fall) ⌝ }
     requires { ⌜ length (now x) ≡ 2 * length (now z) ⌝ }
     requires { ⌜ 2 * (length (now z) / 2) ≡ length (now z) ⌝ }
-    ensures { λ _. ⌜ now (z .exit) ≡ table (length (now (z .entry))) (hops (length (now (z .entry))) (now (left .entry)) (now (right .entry)) (now (x .entry))) ⌝ }
+    ensures { λ _. ⌜ now (z .exit) ≡ table (length (now (z .entry))) (hops (length (now (z .entry))) (now (rise .entry)) (now (fall .entry)) (now (x .entry))) ⌝ }
     ensures { λ _. ⌜ Small (now (z .exit)) (2 ^ 24) ⌝ }
 {
     let m = z.len();
     for j in 0..m {
-        z[j] = folded_at(left, right, x, m, j);
+        z[j] = folded_at(rise, fall, x, m, j);
     }
 }

@@ -37,35 +37,35 @@ fn weighted_negated(w: i32, u: i64) -> i64
 }
 
 // V at place n, from the rounded sums.
-fn value(left: &[i32], right: &[i32], t: &[i64], n: usize) -> i64
-    requires { ⌜ Halves (length (now t)) (now left) (now right) ⌝ }
+fn value(rise: &[i32], fall: &[i32], t: &[i64], n: usize) -> i64
+    requires { ⌜ Halves (length (now t)) (now rise) (now fall) ⌝ }
     requires { ⌜ 2 * (length (now t) / 2) ≡ length (now t) ⌝ }
     requires { ⌜ n < 2 * length (now t) ⌝ }
     requires { ⌜ Small (now t) (2 ^ 36) ⌝ }
-    ensures { λ r. ⌜ r ≡ valueAt (now (left .entry)) (now (right .entry)) (now (t .entry)) n ⌝ }
+    ensures { λ r. ⌜ r ≡ valueAt (now (rise .entry)) (now (fall .entry)) (now (t .entry)) n ⌝ }
 {
     let m = t.len();
     let h = m / 2;
     if n < h {
-        return weighted(left[n], t[h + n]);
+        return weighted(rise[n], t[h + n]);
     }
     if n < m {
-        return weighted_negated(left[n], t[3 * h - 1 - n]);
+        return weighted_negated(rise[n], t[3 * h - 1 - n]);
     }
     if n < 3 * h {
-        return weighted_negated(right[n - m], t[3 * h - 1 - n]);
+        return weighted_negated(fall[n - m], t[3 * h - 1 - n]);
     }
-    weighted_negated(right[n - m], t[n - 3 * h])
+    weighted_negated(fall[n - m], t[n - 3 * h])
 }
 
-pub fn values(left: &[i32], right: &[i32], t: &[i64], v: &mut [i64])
-    requires { ⌜ Halves (length (now t)) (now left) (now right) ⌝ }
+pub fn values(rise: &[i32], fall: &[i32], t: &[i64], v: &mut [i64])
+    requires { ⌜ Halves (length (now t)) (now rise) (now fall) ⌝ }
     requires { ⌜ length (now v) ≡ 2 * length (now t) ⌝ }
     requires { ⌜ 2 * (length (now t) / 2) ≡ length (now t) ⌝ }
     requires { ⌜ Small (now t) (2 ^ 36) ⌝ }
-    ensures { λ _. ⌜ now (v .exit) ≡ table (length (now (v .entry))) (valueAt (now (left .entry)) (now (right .entry)) (now (t .entry))) ⌝ }
+    ensures { λ _. ⌜ now (v .exit) ≡ table (length (now (v .entry))) (valueAt (now (rise .entry)) (now (fall .entry)) (now (t .entry))) ⌝ }
 {
     for n in 0..v.len() {
-        v[n] = value(left, right, t, n);
+        v[n] = value(rise, fall, t, n);
     }
 }

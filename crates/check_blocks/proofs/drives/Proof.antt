@@ -5,10 +5,10 @@ use Rattle.check_blocks.proofs.drives.Statement.{statement}
 use Rattle.check_blocks.proofs.drives.Tie as tie
 
 abbrev Inv-loop : tie.InvT-loop
-Inv-loop n low high k₀ k-end k = k ≤ n / 2
+Inv-loop n left right low high k₀ k-end k = k ≤ n / 2
 
 abbrev μ-loop : tie.MeasureT-loop
-μ-loop n low high k₀ k-end k = n / 2 - k
+μ-loop n left right low high k₀ k-end k = n / 2 - k
 
 loop-holds : tie.Need-loop-holds Inv-loop μ-loop
 loop-holds c = search needs

@@ -8,27 +8,27 @@ use Rattle.check_blocks.proofs.main.Tie as tie
 
 offered-requires : tie.Need-offered-requires
 unfolding tabled every lengths
-offered-requires c κs = (tt, lit≤ tt, lit≤ tt, lit≤ tt, lit≤ tt)
+offered-requires c κs = (tt, lit≤ tt, lit≤ tt, lit≤ tt, lit≤ tt, lit≤ tt, lit≤ tt)
 
 offered-requires-2 : tie.Need-offered-requires-2
 unfolding tabled every lengths
-offered-requires-2 c κs = (tt, lit≤ tt, lit≤ tt, lit≤ tt, lit≤ tt)
+offered-requires-2 c κs = (tt, lit≤ tt, lit≤ tt, lit≤ tt, lit≤ tt, lit≤ tt, lit≤ tt)
 
 offered-requires-3 : tie.Need-offered-requires-3
 unfolding tabled every lengths
-offered-requires-3 c κs = (tt, lit≤ tt, lit≤ tt, lit≤ tt, lit≤ tt)
+offered-requires-3 c κs = (tt, lit≤ tt, lit≤ tt, lit≤ tt, lit≤ tt, lit≤ tt, lit≤ tt)
 
 offered-requires-4 : tie.Need-offered-requires-4
 unfolding tabled every lengths
-offered-requires-4 c κs = (tt, lit≤ tt, lit≤ tt, lit≤ tt, lit≤ tt)
+offered-requires-4 c κs = (tt, lit≤ tt, lit≤ tt, lit≤ tt, lit≤ tt, lit≤ tt, lit≤ tt)
 
 offered-requires-5 : tie.Need-offered-requires-5
 unfolding tabled every lengths
-offered-requires-5 c κs = (tt, lit≤ tt, lit≤ tt, lit≤ tt, lit≤ tt)
+offered-requires-5 c κs = (tt, lit≤ tt, lit≤ tt, lit≤ tt, lit≤ tt, lit≤ tt, lit≤ tt)
 
 offered-requires-6 : tie.Need-offered-requires-6
 unfolding tabled every lengths
-offered-requires-6 c κs = (tt, lit≤ tt, lit≤ tt, lit≤ tt, lit≤ tt)
+offered-requires-6 c κs = (tt, lit≤ tt, lit≤ tt, lit≤ tt, lit≤ tt, lit≤ tt, lit≤ tt)
 
 untabled-requires : tie.Need-untabled-requires
 untabled-requires c κs = search needs

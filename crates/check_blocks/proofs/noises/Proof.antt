@@ -5,10 +5,10 @@ use Rattle.check_blocks.proofs.noises.Statement.{statement}
 use Rattle.check_blocks.proofs.noises.Tie as tie
 
 abbrev Inv-loop : tie.InvT-loop
-Inv-loop n b₀ b = b ≤ 40
+Inv-loop n left right count b₀ b = b ≤ count
 
 abbrev μ-loop : tie.MeasureT-loop
-μ-loop n b₀ b = 40 - b
+μ-loop n left right count b₀ b = count - b
 
 loop-holds : tie.Need-loop-holds Inv-loop μ-loop
 loop-holds c = search needs

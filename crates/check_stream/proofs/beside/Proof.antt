@@ -15,26 +15,17 @@ abbrev μ-loop : tie.MeasureT-loop
 loop-holds : tie.Need-loop-holds Inv-loop μ-loop
 loop-holds c = search needs
 
-mul-number : tie.Need-mul-number Inv-loop μ-loop
-mul-number c = search needs
+mul-either-way : tie.Need-mul-either-way Inv-loop μ-loop
+mul-either-way c = search needs
 
-shared-slice-read-number : tie.Need-shared-slice-read-number Inv-loop μ-loop
-shared-slice-read-number c = search needs
-
-block-requires : tie.Need-block-requires Inv-loop μ-loop
-block-requires c κs = search needs
+shared-slice-read-either-way : tie.Need-shared-slice-read-either-way Inv-loop μ-loop
+shared-slice-read-either-way c = search needs
 
 damage-requires : tie.Need-damage-requires Inv-loop μ-loop
 damage-requires c κs = search needs
 
-refused-in-place-requires : tie.Need-refused-in-place-requires Inv-loop μ-loop
-refused-in-place-requires c κs = search needs
-
-offer-in-place-requires : tie.Need-offer-in-place-requires Inv-loop μ-loop
-offer-in-place-requires c κs = search needs
-
-offer-as-requires : tie.Need-offer-as-requires Inv-loop μ-loop
-offer-as-requires c κs = search needs
+either-way-requires : tie.Need-either-way-requires Inv-loop μ-loop
+either-way-requires c κs = search needs
 
 add-i : tie.Need-add-i Inv-loop μ-loop
 add-i c = search needs
@@ -58,13 +49,10 @@ beside-spec =
     Inv-loop
     μ-loop
     loop-holds
-    mul-number
-    shared-slice-read-number
-    block-requires
+    mul-either-way
+    shared-slice-read-either-way
     damage-requires
-    refused-in-place-requires
-    offer-in-place-requires
-    offer-as-requires
+    either-way-requires
     add-i
     loop-less
     loop-again

@@ -34,8 +34,14 @@ span-requires c κs = search needs
 noise-requires : tie.Need-noise-requires Inv-loop μ-loop
 noise-requires c κs = search needs
 
-offer-requires : tie.Need-offer-requires Inv-loop μ-loop
-offer-requires c κs = search needs
+cast-right-of : tie.Need-cast-right-of Inv-loop μ-loop
+cast-right-of c = search needs
+
+right-of-requires : tie.Need-right-of-requires Inv-loop μ-loop
+right-of-requires c κs = search needs
+
+offer-to-requires : tie.Need-offer-to-requires Inv-loop μ-loop
+offer-to-requires c κs = search needs
 
 refused-requires-2 : tie.Need-refused-requires-2 Inv-loop μ-loop
 refused-requires-2 c κs = search needs
@@ -66,7 +72,9 @@ long-spec =
     add-noise
     span-requires
     noise-requires
-    offer-requires
+    cast-right-of
+    right-of-requires
+    offer-to-requires
     refused-requires-2
     add-b
     loop-less

@@ -10,7 +10,7 @@ use lib.Dec.{T}
 use Rattle.cosine.specs.Kernels.{tabled}
 use Rattle.cosine.specs.LengthLaws.{length-of}
 use Rattle.checks.specs.Limits.{inRange, counted}
-use Rattle.checks.specs.LimitLaws.{range-small, counted-most, places-few}
+use Rattle.checks.specs.LimitLaws.{range-small, counted-most, places-few, block-sixes}
 use Rattle.checks.specs.Causes.First.{none, stop, pass}
 use Rattle.checks.specs.CauseLaws.{same, differs}
 use Rattle.page.specs.Page.{pageOf, pageCauses}
@@ -89,7 +89,10 @@ returns-4 c =
     (pass (good (e .before .before)) (pass (few e) (same (c .before .if3 .left) (differs (c .if4 .taken)))))
 
 in-range-requires : tie.Need-in-range-requires
-in-range-requires c κs = search needs
+in-range-requires c κs =
+    let e = c .before .before in
+    let a = begin e .args in
+    (search needs, block-sixes (a .n) (tab e) (a .hops + 1))
 
 returns-5 : tie.Need-returns-5
 unfolding pageCauses

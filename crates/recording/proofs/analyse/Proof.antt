@@ -64,9 +64,9 @@ module _ (s : tie.Start) where
   last-long = ap length last-is ∙ length-drop ((H - 1) * M) x ∙ omega (arith, s .pre .3, fewer)
 
   -- behind the first block
-  module _ (A : List ℤ) (isA : A ≡ coefficients (s .args .route) (s .args .n) (edge (s .args .n) M (take M x))) where
+  module _ (A : List ℤ) (isA : A ≡ coefficients (s .args .route) (s .args .n) 0 0 (edge (s .args .n) M (take M x))) where
     A-long : length A ≡ M
-    A-long = ap length isA ∙ coefficients-length (s .args .route) (s .args .n) (edge (s .args .n) M (take M x))
+    A-long = ap length isA ∙ coefficients-length (s .args .route) (s .args .n) 0 0 (edge (s .args .n) M (take M x))
 
     one-long : length (A ++ drop M out) ≡ H * M + M
     one-long = length-append A (drop M out) ∙ omega (arith, A-long, length-drop M out, full)
@@ -75,19 +75,19 @@ module _ (s : tie.Start) where
     middle-long = length-take-le (H * M - M) (drop M (A ++ drop M out)) (omega (arith, length-drop M (A ++ drop M out), one-long)) ∙ omega (arith, fewer)
 
     -- behind the blocks that stand in the samples
-    module _ (B : List ℤ) (isB : B ≡ joined (H - 1) (λ b. coefficients (s .args .route) (s .args .n) (standing (s .args .n) x b))) where
+    module _ (B : List ℤ) (isB : B ≡ joined (H - 1) (λ b. coefficients (s .args .route) (s .args .n) 0 0 (standing (s .args .n) x b))) where
       B-long : M + length B ≡ H * M
       B-long =
-          let l = ap length isB ∙ joined-length (λ b. coefficients (s .args .route) (s .args .n) (standing (s .args .n) x b)) M
-          (H - 1) (λ b p. coefficients-length (s .args .route) (s .args .n) (standing (s .args .n) x b)) (H - 1) (omega arith) in
+          let l = ap length isB ∙ joined-length (λ b. coefficients (s .args .route) (s .args .n) 0 0 (standing (s .args .n) x b)) M
+          (H - 1) (λ b p. coefficients-length (s .args .route) (s .args .n) 0 0 (standing (s .args .n) x b)) (H - 1) (omega arith) in
           omega (arith, l, fewer)
 
       abbrev written : List ℤ
       written = take M (A ++ drop M out) ++ (B ++ drop (H * M - M) (drop M (A ++ drop M out)))
 
-      module _ (C : List ℤ) (isC : C ≡ coefficients (s .args .route) (s .args .n) (edge (s .args .n) 0 last)) where
+      module _ (C : List ℤ) (isC : C ≡ coefficients (s .args .route) (s .args .n) 0 0 (edge (s .args .n) 0 last)) where
         C-long : length C ≡ M
-        C-long = ap length isC ∙ coefficients-length (s .args .route) (s .args .n) (edge (s .args .n) 0 last)
+        C-long = ap length isC ∙ coefficients-length (s .args .route) (s .args .n) 0 0 (edge (s .args .n) 0 last)
 
         rest : length out ≡ H * M + length C
         rest = omega (arith, full, C-long)
@@ -98,10 +98,10 @@ module _ (s : tie.Start) where
         whole : take (H * M) written ++ (C ++ drop (length written - H * M) (drop (H * M) written)) ≡ analysis (s .args .route) (s .args .n) H x
         whole =
             three-parts A B C out M (H * M) A-long B-long rest (length written - H * M) (omega (arith, written-long, C-long))
-            ∙ analysis-made (s .args .route) (s .args .n) H two (s .pre .1) x (s .pre .3) isA isB (isC ∙ ap (λ (l : List ℤ). coefficients (s .args .route) (s .args .n) (edge (s .args .n) 0 l)) last-is)
+            ∙ analysis-made (s .args .route) (s .args .n) H two (s .pre .1) x (s .pre .3) isA isB (isC ∙ ap (λ (l : List ℤ). coefficients (s .args .route) (s .args .n) 0 0 (edge (s .args .n) 0 l)) last-is)
 
       written-room : length written ≡ H * M + M
-      written-room = written-long (coefficients (s .args .route) (s .args .n) (edge (s .args .n) 0 last)) refl
+      written-room = written-long (coefficients (s .args .route) (s .args .n) 0 0 (edge (s .args .n) 0 last)) refl
 
       part-long : length (take (length written - H * M) (drop (H * M) written)) ≡ M
       part-long = length-take-le (length written - H * M) (drop (H * M) written) (omega (arith, length-drop (H * M) written)) ∙ omega (arith, written-room)

@@ -92,7 +92,7 @@ returns c =
     let s = c .before .before .before .before .before .before .before .before in
     let r = c .before .before .before .before .before .before .before .silent-block in
     let y = c .before .before .before .before .before .copy in
-    c .before .analyse-block .ensures ∙ ap (coefficients (s .args .route) (s .args .n)) (lent s (r .result) (y .last .1 .0) (r .ensures) (y .ensures))
+    c .before .analyse-block .ensures ∙ ap (coefficients (s .args .route) (s .args .n) 0 0) (lent s (r .result) (y .last .1 .0) (r .ensures) (y .ensures))
 
 pub edge-block-spec : {M : Type 1} → statement M
 edge-block-spec =

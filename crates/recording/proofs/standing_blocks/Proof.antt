@@ -18,7 +18,7 @@ use Rattle.recording.proofs.standing_blocks.Tie as tie
 
 -- what block b gives
 abbrev given : Route → ℕ → List ℤ → ℕ → List ℤ
-given route n x b = coefficients route n (standing n x b)
+given route n x b = coefficients route n 0 0 (standing n x b)
 
 abbrev Inv-loop : tie.InvT-loop
 Inv-loop route n blocks x out₀ m b₀ out b = (b ≤ blocks) × Joined (given route n x) (n / 2) b out out₀
@@ -96,9 +96,9 @@ loop-again c =
     let e : at + a .n - at ≡ a .n = omega arith in
     let f : at + a .n / 2 - at ≡ a .n / 2 = omega arith in (
       omega arith,
-      joined-more (given (a .route) (a .n) (a .x .now)) (a .n / 2) (a .blocks) (λ j p. coefficients-length (a .route) (a .n) (standing (a .n) (a .x .now) j)) b (at + a .n / 2 - at) (omega arith) (l .loop .out) (a .out .now)
-          (c .before .analyse-block .last .1 .1 .1 .0) (l .loop .inv .1) (placed (c .before .before .before .before) .ends) f
-          (c .before .analyse-block .ensures ∙ ap (coefficients (a .route) (a .n)) (standing-is (a .n) b (a .x .now) e)),
+      joined-more (given (a .route) (a .n) (a .x .now)) (a .n / 2) (a .blocks) (λ j p. coefficients-length (a .route) (a .n) 0 0 (standing (a .n) (a .x .now) j)) b (at + a .n / 2 - at) (omega arith) (l .loop .out) (a .out .now)
+          (c .before .analyse-block .last .1 .1 .1 .1 .1 .0) (l .loop .inv .1) (placed (c .before .before .before .before) .ends) f
+          (c .before .analyse-block .ensures ∙ ap (coefficients (a .route) (a .n) 0 0) (standing-is (a .n) b (a .x .now) e)),
     )
 
 same-length : tie.Need-same-length Inv-loop μ-loop

@@ -110,12 +110,12 @@ unfolding streamAfter fresh next returned hop
 loop-holds c =
     let s = c .before .before .before .before .before .before in
     let y = c .before .before .advance-tail in
-    let ys = y .last .1 .1 .1 .0 in
-    let is = y .ensures .1 ∙ ap (S.hop (n s) (rising (n s)) (falling (n s)) (fresh (n s) .tail)) (part-first (n s) (x s)) in
+    let ys = y .last .1 .1 .1 .1 .1 .0 in
+    let is = y .ensures .1 ∙ ap (S.hop (n s) (rising 0 (n s)) (falling 0 (n s)) (fresh (n s) .tail)) (part-first (n s) (x s)) in
     let l : length ys ≡ M s = ap length is ∙ returned-long (n s) (part (n s) (x s)) 0 in
     let out = s .args .out .now in (
       omega arith,
-      y .ensures .0 ∙ ap (newTail (n s) (rising (n s)) (falling (n s)) (fresh (n s) .tail)) (part-first (n s) (x s)),
+      y .ensures .0 ∙ ap (newTail (n s) (rising 0 (n s)) (falling 0 (n s)) (fresh (n s) .tail)) (part-first (n s) (x s)),
       joined-none (given (n s) (x s)) (M s) (ys ++ drop (M s) out),
       length-append ys (drop (M s) out) ∙ omega (arith, l, length-drop (M s) out, s .pre .1 .1, first≤ s),
     )
@@ -217,13 +217,13 @@ loop-again c =
       omega arith,
       rw (add-one h)
           (y .ensures .0
-          ∙ ap₂ (newTail (n s) (rising (n s)) (falling (n s))) t k
-          ∙ ap (λ (N : ℕ). newTail N (rising N) (falling N) (b .tail) (part (n s) (x s) (suc h))) e),
-      joined-more (given (n s) (x s)) (M s) (H s) (λ j p. returned-long (n s) (part (n s) (x s)) (suc j)) h (at + M s - at) less (i .before .loop .out) _ (y .last .1 .1 .1 .0) (i .before .loop .inv .2)
+          ∙ ap₂ (newTail (n s) (rising 0 (n s)) (falling 0 (n s))) t k
+          ∙ ap (λ (N : ℕ). newTail N (rising 0 N) (falling 0 N) (b .tail) (part (n s) (x s) (suc h))) e),
+      joined-more (given (n s) (x s)) (M s) (H s) (λ j p. returned-long (n s) (part (n s) (x s)) (suc j)) h (at + M s - at) less (i .before .loop .out) _ (y .last .1 .1 .1 .1 .1 .0) (i .before .loop .inv .2)
           (omega (arith, lies-here i .ends, s .pre .1 .1, i .before .loop .inv .3)) f
           (y .ensures .1
-          ∙ ap₂ (S.hop (n s) (rising (n s)) (falling (n s))) t k
-          ∙ ap (λ (N : ℕ). S.hop N (rising N) (falling N) (b .tail) (part (n s) (x s) (suc h))) e),
+          ∙ ap₂ (S.hop (n s) (rising 0 (n s)) (falling 0 (n s))) t k
+          ∙ ap (λ (N : ℕ). S.hop N (rising 0 N) (falling 0 N) (b .tail) (part (n s) (x s) (suc h))) e),
       i .before .loop .inv .3,
     )
 

@@ -50,7 +50,7 @@ returns c =
     let f = c .before in
     let s = f .before .before in
     let q = s .pre in
-    short-step (n s) (q .0 .given .whole) (s .args .x .now) (length (a s)) (block s) (a s) (plus s) (minus s) _ (a-long s) (q .0 .is) (q .1 .0) (f .coefficients .ensures)
+    short-step (n s) (s .args .left) (s .args .right) (q .0 .given .whole) (s .args .x .now) (length (a s)) (block s) (a s) (plus s) (minus s) _ (a-long s) (q .0 .is) (q .1 .0) (f .coefficients .ensures)
 
 pub short-block-spec : {M : Type 1} → statement M
 short-block-spec = tie.close (tie.spec coefficients-requires same-length returns)

@@ -1,4 +1,4 @@
--- `windowed_block` meets its contract: the window that is lent is the length's.
+-- `windowed_block` meets its contract: the halves that are lent are those of the block's joints.
 use mathlib.Core.Path.{sym, ap, _∙_}
 use native.Mathlib.Omega.{arith}
 use lib.ListN.{length}
@@ -15,9 +15,9 @@ windowed-block-requires c κs =
     let s = c .before in
     let n = s .args .n in
     let q = s .pre in
-    let l = rise-length n in
-    let w = lent-window n (s .args .left .now) (s .args .right .now) (q .0) in (
-      ap length (q .0 .rise) ∙ l ∙ sym (fall-length n) ∙ sym (ap length (q .0 .fall)),
+    let l = rise-length (s .args .left) n in
+    let w = lent-window n (s .args .left) (s .args .right) (s .args .rise .now) (s .args .fall .now) (q .0) in (
+      ap length (q .0 .rise) ∙ l ∙ sym (fall-length (s .args .right) n) ∙ sym (ap length (q .0 .fall)),
       (q .1 .1 .0 ∙ omega (arith, q .0 .whole .twelve, ap length (q .0 .rise), l), (q .1 .1 .1 ∙ sym (q .1 .1 .0), w)),
     )
 
@@ -30,9 +30,9 @@ returns c =
     let s = f .before .before in
     let q = s .pre in
     let n = s .args .n in
-    let is = windowed-step n (s .args .x .now) (length (s .args .x .now)) (s .args .left .now) (s .args .right .now) _ (q .1 .1 .0) (q .0 .rise) (q .0 .fall) (f .windowed-block .ensures .0) in
+    let is = windowed-step n (s .args .left) (s .args .right) (s .args .x .now) (length (s .args .x .now)) (s .args .rise .now) (s .args .fall .now) _ (q .1 .1 .0) (q .0 .rise) (q .0 .fall) (f .windowed-block .ensures .0) in
     record {
-      given = record { whole = q .0 .whole; few = q .1 .0; part = third-part n (q .0 .whole); all = windowed-length n (s .args .x .now) _ is; small = f .windowed-block .ensures .1 };
+      given = record { whole = q .0 .whole; few = q .1 .0; part = third-part n (q .0 .whole); all = windowed-length n (s .args .left) (s .args .right) (s .args .x .now) _ is; small = f .windowed-block .ensures .1 };
       is = is;
     }
 

@@ -18,10 +18,10 @@ module _ (s : tie.Start) where
   small k p = s .pre .0 .ready .input .small .small k (omega (arith, s .pre .0 .ready .input .long))
 
   long : length (s .args .v .now) ≡ n
-  long = values-long n (s .pre .0 .part) (s .args .x .now) (s .args .v .now) small (s .pre .1)
+  long = values-long n (s .args .left) (s .args .right) (s .pre .0 .part) (s .args .x .now) (s .args .v .now) small (s .pre .1)
 
   bounded : Bounded (n / 2) (s .args .v .now)
-  bounded = values-bounded n (s .pre .0 .part) (s .args .x .now) (s .args .v .now) small (s .pre .1)
+  bounded = values-bounded n (s .args .left) (s .args .right) (s .pre .0 .part) (s .args .x .now) (s .args .v .now) small (s .pre .1)
 
 fill-hop-requires : tie.Need-fill-hop-requires
 fill-hop-requires c κs =
@@ -43,8 +43,8 @@ returns : tie.Need-returns
 returns c =
     let s = c .before .before .before .before .before .before .before in
     let f = c .before .before .before .before in (
-      tail-step (n s) (s .pre .0 .part) (s .args .x .now) (s .args .v .now) (small s) (s .pre .1) (s .args .tail .now) _ (c .before .shift .ensures),
-      hop-step (n s) (s .pre .0 .part) (s .args .x .now) (s .args .v .now) (small s) (s .pre .1) (s .args .tail .now) _ (f .fill-hop .ensures),
+      tail-step (n s) (s .args .left) (s .args .right) (s .pre .0 .part) (s .args .x .now) (s .args .v .now) (small s) (s .pre .1) (s .args .tail .now) _ (c .before .shift .ensures),
+      hop-step (n s) (s .args .left) (s .args .right) (s .pre .0 .part) (s .args .x .now) (s .args .v .now) (small s) (s .pre .1) (s .args .tail .now) _ (f .fill-hop .ensures),
     )
 
 pub settle-spec : {M : Type 1} → statement M

@@ -6,6 +6,7 @@ use borrow.Author.Tests.{not-true, not-false}
 use Rattle.arithmetic.specs.TestLaws.{is-T}
 use Rattle.cosine.specs.Kernels.{tabled}
 use Rattle.cosine.specs.LengthLaws.{length-of}
+use Rattle.checks.specs.LimitLaws.{hop-sixes}
 use Rattle.stream_calls.specs.Streams.{sound, soundTail}
 use borrow.Author.Needs.{needs}
 use Rattle.stream_calls.proofs.is_sound.Statement.{statement}
@@ -27,7 +28,7 @@ tail-within-requires : tie.Need-tail-within-requires
 tail-within-requires c κs =
     let s = c .before .before in
     let most = length-of (s .args .n) (is-T (long-is c)) .most in
-    (omega (arith, most), omega (arith, most, s .pre))
+    (omega (arith, most), omega (arith, most, s .pre), hop-sixes (s .args .n) (is-T (long-is c)))
 
 returns-2 : tie.Need-returns-2
 unfolding sound soundTail

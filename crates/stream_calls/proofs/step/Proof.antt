@@ -28,6 +28,12 @@ module _ (b : tie.After-step-tail) where
   abbrev number : ℕ
   number = begin .args .number
 
+  abbrev left : ℕ
+  left = begin .args .left
+
+  abbrev right : ℕ
+  right = begin .args .right
+
   abbrev x : List ℤ
   x = begin .args .x .now
 
@@ -41,13 +47,13 @@ returns : tie.Need-returns
 returns c =
     let b = c .before .before .before in
     let e = b .step-tail .ensures in
-    (ap (λ (k : ℕ). record { code = k; stream = s b }) (e .0) ∙ step-refused (s b) (number b) (x b) (out b) (λ z. c .if1 .taken (e .0 ∙ z)), e .1 .1)
+    (ap (λ (k : ℕ). record { code = k; stream = s b }) (e .0) ∙ step-refused (s b) (number b) (left b) (right b) (x b) (out b) (λ z. c .if1 .taken (e .0 ∙ z)), e .1 .1)
 
 -- a taken block's number has 32 bits
 add-then : tie.Need-add-then
 add-then c =
     let b = c .before .before .before in
-    let h = step-number (s b) (number b) (x b) (out b) (sym (b .step-tail .ensures .0) ∙ c .if1 .left) in
+    let h = step-number (s b) (number b) (left b) (right b) (x b) (out b) (sym (b .step-tail .ensures .0) ∙ c .if1 .left) in
     record { fits = omega (arith, h, begin b .fits .number .fits) }
 
 same-length-2 : tie.Need-same-length-2
@@ -57,7 +63,7 @@ returns-2 : tie.Need-returns-2
 returns-2 c =
     let b = c .before .before .before in
     let e = b .step-tail .ensures in (
-      ap (λ (t : List ℤ). record { code = 0; stream = streamOf (s b .n) (s b .expected + 1) t }) (e .1 .0) ∙ step-taken (s b) (number b) (x b) (out b) (sym (e .0) ∙ c .if1 .left),
+      ap (λ (t : List ℤ). record { code = 0; stream = streamOf (s b .n) (s b .expected + 1) (right b) t }) (e .1 .0) ∙ step-taken (s b) (number b) (left b) (right b) (x b) (out b) (sym (e .0) ∙ c .if1 .left),
       e .1 .1,
     )
 

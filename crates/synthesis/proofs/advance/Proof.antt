@@ -5,6 +5,7 @@ use Prim.Native.Nat.{_+_}
 use native.Mathlib.Omega.{arith}
 use lib.IntN.{ℤ}
 use borrow.Author.Needs.{needs}
+use Rattle.stream.specs.Steps.{next}
 use Rattle.synthesis.proofs.advance.Statement.{statement}
 use Rattle.synthesis.proofs.advance.Tie as tie
 
@@ -21,9 +22,10 @@ same-length : tie.Need-same-length
 same-length c = search needs
 
 returns : tie.Need-returns
+unfolding next
 returns c =
     let s = c .before .before .before .before .before .before .before in
-    (ap (λ (r : List ℤ). record { n = s .args .s .n; expected = s .args .s .expected + 1; tail = r }) (c .before .before .advance-tail .ensures .0), c .before .before .advance-tail .ensures .1)
+    (ap (λ (r : List ℤ). record { n = s .args .s .n; expected = s .args .s .expected + 1; shape = 0; tail = r }) (c .before .before .advance-tail .ensures .0), c .before .before .advance-tail .ensures .1)
 
 pub advance-spec : {M : Type 1} → statement M
 advance-spec =

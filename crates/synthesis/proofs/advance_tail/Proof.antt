@@ -60,7 +60,7 @@ returns : tie.Need-returns
 returns c =
     let s = c .before .before .before .before .before .before .before in
     let e = c .before .before .before .before .before .before .if1 .taken in
-    step-at (s .args .n) 12 (s .args .tail .now) (s .args .x .now) (take 6 (s .args .x .now)) _ _ e (whole s 6 e) (c .before .before .advance-12 .ensures)
+    step-at (s .args .n) 12 (s .args .left) (s .args .right) (s .args .tail .now) (s .args .x .now) (take 6 (s .args .x .now)) _ _ e (whole s 6 e) (c .before .before .advance-12 .ensures)
 
 slice-aggregate-advance-24 : tie.Need-slice-aggregate-advance-24
 slice-aggregate-advance-24 c = sym (counted (c .before .before .before) 12 (c .before .if2 .taken))
@@ -78,7 +78,7 @@ returns-2 : tie.Need-returns-2
 returns-2 c =
     let s = c .before .before .before .before .before .before .before .before in
     let e = c .before .before .before .before .before .before .if2 .taken in
-    step-at (s .args .n) 24 (s .args .tail .now) (s .args .x .now) (take 12 (s .args .x .now)) _ _ e (whole s 12 e) (c .before .before .advance-24 .ensures)
+    step-at (s .args .n) 24 (s .args .left) (s .args .right) (s .args .tail .now) (s .args .x .now) (take 12 (s .args .x .now)) _ _ e (whole s 12 e) (c .before .before .advance-24 .ensures)
 
 slice-aggregate-advance-36 : tie.Need-slice-aggregate-advance-36
 slice-aggregate-advance-36 c = sym (counted (c .before .before .before .before) 18 (c .before .if3 .taken))
@@ -96,7 +96,7 @@ returns-3 : tie.Need-returns-3
 returns-3 c =
     let s = c .before .before .before .before .before .before .before .before .before in
     let e = c .before .before .before .before .before .before .if3 .taken in
-    step-at (s .args .n) 36 (s .args .tail .now) (s .args .x .now) (take 18 (s .args .x .now)) _ _ e (whole s 18 e) (c .before .before .advance-36 .ensures)
+    step-at (s .args .n) 36 (s .args .left) (s .args .right) (s .args .tail .now) (s .args .x .now) (take 18 (s .args .x .now)) _ _ e (whole s 18 e) (c .before .before .advance-36 .ensures)
 
 slice-aggregate-advance-72 : tie.Need-slice-aggregate-advance-72
 slice-aggregate-advance-72 c = sym (counted (c .before .before .before .before .before) 36 (c .before .if4 .taken))
@@ -114,7 +114,7 @@ returns-4 : tie.Need-returns-4
 returns-4 c =
     let s = c .before .before .before .before .before .before .before .before .before .before in
     let e = c .before .before .before .before .before .before .if4 .taken in
-    step-at (s .args .n) 72 (s .args .tail .now) (s .args .x .now) (take 36 (s .args .x .now)) _ _ e (whole s 36 e) (c .before .before .advance-72 .ensures)
+    step-at (s .args .n) 72 (s .args .left) (s .args .right) (s .args .tail .now) (s .args .x .now) (take 36 (s .args .x .now)) _ _ e (whole s 36 e) (c .before .before .advance-72 .ensures)
 
 slice-aggregate-advance-108 : tie.Need-slice-aggregate-advance-108
 slice-aggregate-advance-108 c = sym (counted (c .before .before .before .before .before .before) 54 (c .before .if5 .taken))
@@ -132,7 +132,7 @@ returns-5 : tie.Need-returns-5
 returns-5 c =
     let s = c .before .before .before .before .before .before .before .before .before .before .before in
     let e = c .before .before .before .before .before .before .if5 .taken in
-    step-at (s .args .n) 108 (s .args .tail .now) (s .args .x .now) (take 54 (s .args .x .now)) _ _ e (whole s 54 e) (c .before .before .advance-108 .ensures)
+    step-at (s .args .n) 108 (s .args .left) (s .args .right) (s .args .tail .now) (s .args .x .now) (take 54 (s .args .x .now)) _ _ e (whole s 54 e) (c .before .before .advance-108 .ensures)
 
 slice-aggregate-advance-216 : tie.Need-slice-aggregate-advance-216
 slice-aggregate-advance-216 c = sym (counted (c .before .before .before .before .before .before) 108 (last (c .before)))
@@ -150,7 +150,7 @@ returns-6 : tie.Need-returns-6
 returns-6 c =
     let s = c .before .before .before .before .before .before .before .before .before .before .before in
     let e = last (c .before .before .before .before .before .before) in
-    step-at (s .args .n) 216 (s .args .tail .now) (s .args .x .now) (take 108 (s .args .x .now)) _ _ e (whole s 108 e) (c .before .before .advance-216 .ensures)
+    step-at (s .args .n) 216 (s .args .left) (s .args .right) (s .args .tail .now) (s .args .x .now) (take 108 (s .args .x .now)) _ _ e (whole s 108 e) (c .before .before .advance-216 .ensures)
 
 pub advance-tail-spec : {M : Type 1} → statement M
 advance-tail-spec =

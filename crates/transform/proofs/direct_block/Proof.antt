@@ -31,7 +31,7 @@ module _ (s : tie.Start) where
   sums-length = ap length (s .pre .1 .0 .are) ∙ length-table (folds n z) (n / 2)
 
   inputs-length : length z ≡ n / 2
-  inputs-length = ap length (s .pre .0 .is) ∙ length-table (folded n (y n (at (riseList n)) (at (fallList n)) (s .args .x .now))) (n / 2)
+  inputs-length = ap length (s .pre .0 .is) ∙ length-table (folded n (y n (at (riseList (s .args .left) n)) (at (fallList (s .args .right) n)) (s .args .x .now))) (n / 2)
 
   -- 36 products of 2^50
   sums-small : Small t (2 ^ 58)
@@ -52,7 +52,7 @@ same-length c = search needs
 returns : tie.Need-returns
 returns c =
     let s = c .before .before .before in
-    direct-step (n s) (s .pre .0 .whole) (s .args .x .now) (length (t s)) (z s) (t s) _ (sums-length s) (s .pre .0 .is) (s .pre .1 .0 .are) (c .before .spectrum .ensures)
+    direct-step (n s) (s .args .left) (s .args .right) (s .pre .0 .whole) (s .args .x .now) (length (t s)) (z s) (t s) _ (sums-length s) (s .pre .0 .is) (s .pre .1 .0 .are) (c .before .spectrum .ensures)
 
 pub direct-block-spec : {M : Type 1} → statement M
 direct-block-spec = tie.close (tie.spec spectrum-requires same-length returns)

@@ -41,7 +41,7 @@ values-requires c κs =
     let q = s .pre in
     let l = u-length r in
     let w = q .0 .whole .twelve in
-    (lent-halves n (length (u r)) (s .args .left .now) (s .args .right .now) (q .0) l, (omega (arith, q .1 .1, l, w), (omega (arith, l, w), u-small r)))
+    (lent-halves n (s .args .left) (s .args .right) (length (u r)) (s .args .rise .now) (s .args .fall .now) (q .0) l, (omega (arith, q .1 .1, l, w), (omega (arith, l, w), u-small r)))
 
 same-length : tie.Need-same-length
 same-length c = search needs
@@ -54,7 +54,7 @@ returns c =
     let r = c .before .before .before .before .before in
     let s = r .before .before in
     let q = s .pre in
-    value-step (s .args .n) (q .0 .whole) (s .args .x .now) (s .args .left .now) (s .args .right .now) (u r) _ (length (s .args .v .now)) (q .1 .1) (q .0 .rise) (q .0 .fall) (u-is r) (c .before .values .ensures)
+    value-step (s .args .n) (s .args .left) (s .args .right) (q .0 .whole) (s .args .x .now) (s .args .rise .now) (s .args .fall .now) (u r) _ (length (s .args .v .now)) (q .1 .1) (q .0 .rise) (q .0 .fall) (u-is r) (c .before .values .ensures)
 
 pub inverse-block-spec : {M : Type 1} → statement M
 inverse-block-spec = tie.close (tie.spec round-requires values-requires same-length same-length-2 returns)

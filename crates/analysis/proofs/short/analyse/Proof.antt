@@ -16,7 +16,7 @@ same-length c = search needs
 
 returns : tie.Need-returns
 returns c =
-    short-at (c .before .before .before .before .args .n) 12 (c .before .before .before .before .args .x .now) (c .before .short-12 .last .1 .0) (c .before .before .before .if1 .taken) (c .before .short-12 .ensures)
+    short-at (c .before .before .before .before .args .n) 12 (c .before .before .before .before .args .left) (c .before .before .before .before .args .right) (c .before .before .before .before .args .x .now) (c .before .short-12 .last .1 .1 .1 .0) (c .before .before .before .if1 .taken) (c .before .short-12 .ensures)
 
 short-24-requires : tie.Need-short-24-requires
 short-24-requires c κs = search needs
@@ -26,7 +26,7 @@ same-length-2 c = search needs
 
 returns-2 : tie.Need-returns-2
 returns-2 c =
-    short-at (c .before .before .before .before .before .args .n) 24 (c .before .before .before .before .before .args .x .now) (c .before .short-24 .last .1 .0) (c .before .before .before .if2 .taken) (c .before .short-24 .ensures)
+    short-at (c .before .before .before .before .before .args .n) 24 (c .before .before .before .before .before .args .left) (c .before .before .before .before .before .args .right) (c .before .before .before .before .before .args .x .now) (c .before .short-24 .last .1 .1 .1 .0) (c .before .before .before .if2 .taken) (c .before .short-24 .ensures)
 
 short-36-requires : tie.Need-short-36-requires
 short-36-requires c κs = search needs
@@ -36,7 +36,7 @@ same-length-3 c = search needs
 
 returns-3 : tie.Need-returns-3
 returns-3 c =
-    short-at (c .before .before .before .before .before .before .args .n) 36 (c .before .before .before .before .before .before .args .x .now) (c .before .short-36 .last .1 .0) (c .before .before .before .if3 .taken) (c .before .short-36 .ensures)
+    short-at (c .before .before .before .before .before .before .args .n) 36 (c .before .before .before .before .before .before .args .left) (c .before .before .before .before .before .before .args .right) (c .before .before .before .before .before .before .args .x .now) (c .before .short-36 .last .1 .1 .1 .0) (c .before .before .before .if3 .taken) (c .before .short-36 .ensures)
 
 -- what is left is the last length
 last : (c : tie.Else3) → c .before .before .before .args .n ≡ 72
@@ -53,7 +53,7 @@ same-length-4 c = search needs
 
 returns-4 : tie.Need-returns-4
 returns-4 c =
-    short-at (c .before .before .before .before .before .before .args .n) 72 (c .before .before .before .before .before .before .args .x .now) (c .before .short-72 .last .1 .0) (last (c .before .before .before)) (c .before .short-72 .ensures)
+    short-at (c .before .before .before .before .before .before .args .n) 72 (c .before .before .before .before .before .before .args .left) (c .before .before .before .before .before .before .args .right) (c .before .before .before .before .before .before .args .x .now) (c .before .short-72 .last .1 .1 .1 .0) (last (c .before .before .before)) (c .before .short-72 .ensures)
 
 pub analyse-spec : {M : Type 1} → statement M
 analyse-spec =

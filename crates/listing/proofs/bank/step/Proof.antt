@@ -44,22 +44,22 @@ module _ (c : tie.After-analyse) where
   block = start rooms .args .block .now
 
   abbrev x : List ℤ
-  x = c .analyse .last .1 .1 .0
+  x = c .analyse .last .1 .1 .1 .1 .0
 
   abbrev beyond : List ℤ
   beyond = drop (N / 2) (room rooms)
 
-  x-is : x ≡ coefficients Direct N block
+  x-is : x ≡ coefficients Direct N 0 0 block
   unfolding coefficients spectrum
   x-is = c .analyse .ensures
 
-  long : length (coefficients Direct N block) ≡ N / 2
+  long : length (coefficients Direct N 0 0 block) ≡ N / 2
   long = coefficients-long N (start rooms .pre .0 .0) block (start rooms .pre .0 .2)
 
   x-long : length x ≡ N / 2
   x-long = ap length x-is ∙ long
 
-  brought : take (N / 2) (x ++ beyond) ≡ coefficients Direct N block
+  brought : take (N / 2) (x ++ beyond) ≡ coefficients Direct N 0 0 block
   brought = take-at x beyond (N / 2) x-long ∙ x-is
 
   brought-long : length (take (N / 2) (x ++ beyond)) ≡ N / 2
@@ -97,8 +97,8 @@ unfolding next hop
 returns c =
     let a = c .before .before .before .before .before in
     let s = start (rooms a) .args .s in (
-      c .before .advance .ensures .0 ∙ ap (λ (l : List ℤ). next s l) (brought a),
-      c .before .advance .ensures .1 ∙ ap (λ (l : List ℤ). hop s l) (brought a),
+      c .before .advance .ensures .0 ∙ ap (λ (l : List ℤ). next s 0 0 l) (brought a),
+      c .before .advance .ensures .1 ∙ ap (λ (l : List ℤ). hop s 0 0 l) (brought a),
     )
 
 pub step-spec : {M : Type 1} → statement M

@@ -9,18 +9,18 @@ use Rattle.split.proofs.block.windowed_block.Statement.{statement}
 use Rattle.split.proofs.block.windowed_block.Tie as tie
 
 slice-aggregate-window-hop : tie.Need-slice-aggregate-window-hop
-slice-aggregate-window-hop c = sym (length-take-le (length (c .before .args .left .now)) (c .before .args .x .now) (omega arith))
+slice-aggregate-window-hop c = sym (length-take-le (length (c .before .args .rise .now)) (c .before .args .x .now) (omega arith))
 
 slice-relend-prefix-window-hop : tie.Need-slice-relend-prefix-window-hop
 slice-relend-prefix-window-hop c = search needs
 
 slice-aggregate-window-hop-2 : tie.Need-slice-aggregate-window-hop-2
-slice-aggregate-window-hop-2 c = let s = c .before .before in sym (length-take-le (length (s .args .left .now)) (s .args .out .now) (omega arith))
+slice-aggregate-window-hop-2 c = let s = c .before .before in sym (length-take-le (length (s .args .rise .now)) (s .args .out .now) (omega arith))
 
 window-hop-requires : tie.Need-window-hop-requires
 window-hop-requires c κs =
     let s = c .before .before in
-    let m = length (s .args .left .now) in
+    let m = length (s .args .rise .now) in
     let q = s .pre in
     (q .1 .1 .1 .0, (length-take-le m (s .args .x .now) (omega arith), length-take-le m (s .args .out .now) (omega arith)))
 
@@ -62,8 +62,8 @@ returns c =
     let q = f .before .before .before .pre in
     let first = f .window-hop .last .1 .1 .1 .0 in
     let second = g .window-hop2 .last .1 .1 .1 .0 in (
-      hops-are (a .left .now) (a .right .now) (a .x .now) (a .out .now) first second (q .0) (q .1 .0) (q .1 .1 .0) (f .window-hop .ensures .0) (g .window-hop2 .ensures .0),
-      hops-small (a .left .now) (a .right .now) (a .x .now) (a .out .now) first second (q .0) (q .1 .0) (q .1 .1 .0) (f .window-hop .ensures .0) (g .window-hop2 .ensures .0)
+      hops-are (a .rise .now) (a .fall .now) (a .x .now) (a .out .now) first second (q .0) (q .1 .0) (q .1 .1 .0) (f .window-hop .ensures .0) (g .window-hop2 .ensures .0),
+      hops-small (a .rise .now) (a .fall .now) (a .x .now) (a .out .now) first second (q .0) (q .1 .0) (q .1 .1 .0) (f .window-hop .ensures .0) (g .window-hop2 .ensures .0)
           (f .window-hop .ensures .1)
           (g .window-hop2 .ensures .1),
     )

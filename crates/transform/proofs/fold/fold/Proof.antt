@@ -14,13 +14,13 @@ use Rattle.transform.proofs.fold.fold.Statement.{statement}
 use Rattle.transform.proofs.fold.fold.Tie as tie
 
 abbrev Inv-loop : tie.InvT-loop
-Inv-loop left right x z₀ m j₀ z j = (j ≤ length z₀) × Filled (hops (length z₀) left right x) j z z₀ × ((i : ℕ) → i < j → natAbs (hops (length z₀) left right x i) ≤ 2 ^ 24)
+Inv-loop rise fall x z₀ m j₀ z j = (j ≤ length z₀) × Filled (hops (length z₀) rise fall x) j z z₀ × ((i : ℕ) → i < j → natAbs (hops (length z₀) rise fall x i) ≤ 2 ^ 24)
 
 abbrev μ-loop : tie.MeasureT-loop
-μ-loop left right x z₀ m j₀ z j = length z₀ - j
+μ-loop rise fall x z₀ m j₀ z j = length z₀ - j
 
 loop-holds : tie.Need-loop-holds Inv-loop μ-loop
-loop-holds c = (omega arith, filled-none (hops (length (c .args .z .now)) (c .args .left .now) (c .args .right .now) (c .args .x .now)) (c .args .z .now), λ i p. absurd (omega arith))
+loop-holds c = (omega arith, filled-none (hops (length (c .args .z .now)) (c .args .rise .now) (c .args .fall .now) (c .args .x .now)) (c .args .z .now), λ i p. absurd (omega arith))
 
 folded-at-requires : tie.Need-folded-at-requires Inv-loop μ-loop
 folded-at-requires c κs = let q = c .before .before .pre in (q .0, (q .1 .0, (q .1 .1, omega arith)))
@@ -41,7 +41,7 @@ loop-again : tie.Need-loop-again Inv-loop μ-loop
 loop-again c =
     let l = c .before .before in
     let a = l .before .args in
-    let f = hops (length (a .z .now)) (a .left .now) (a .right .now) (a .x .now) in (
+    let f = hops (length (a .z .now)) (a .rise .now) (a .fall .now) (a .x .now) in (
       omega arith,
       filled-more f (l .loop .j) (l .loop .z) (a .z .now) _ (l .loop .inv .1)
           (omega (arith, l .loop .inv .1 .room))
@@ -56,7 +56,7 @@ returns : tie.Need-returns Inv-loop μ-loop
 returns c =
     let a = c .before .before .args in
     let l = c .before .loop in
-    let f = hops (length (a .z .now)) (a .left .now) (a .right .now) (a .x .now) in
+    let f = hops (length (a .z .now)) (a .rise .now) (a .fall .now) (a .x .now) in
     let e : l .j ≡ length (a .z .now) = omega arith in
     let z : l .z ≡ table (length (a .z .now)) f = filled-all f (length (a .z .now)) (l .z) (a .z .now) (rw e at (l .inv .1)) refl in (
       z,

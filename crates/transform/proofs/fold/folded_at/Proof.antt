@@ -42,14 +42,14 @@ returns c =
     let lo : m + (m / 2 - 1 - j) ≡ 3 * (m / 2) - 1 - j = omega arith in
     let hi : m + (m / 2 + j) ≡ 3 * (m / 2) + j = omega arith in
     rw (toZ-ofZ {w = w32} {z = c .negated-sum .result} (record { sfits = c .negated-sum .ok }))
-    (c .negated-sum .ensures .0 ∙ rw (lo, hi) (folded-lower m (a .left .now) (a .right .now) (a .x .now) j (q .1 .1 .0) (omega arith)), c .negated-sum .ensures .1)
+    (c .negated-sum .ensures .0 ∙ rw (lo, hi) (folded-lower m (a .rise .now) (a .fall .now) (a .x .now) j (q .1 .1 .0) (omega arith)), c .negated-sum .ensures .1)
 
 returns-2 : tie.Need-returns-2
 returns-2 c =
     let a = c .before .before .args in
     let q = c .before .before .pre in
     rw (toZ-ofZ {w = w32} {z = c .difference .result} (record { sfits = c .difference .ok }))
-    (c .difference .ensures .0 ∙ folded-upper (a .m) (a .left .now) (a .right .now) (a .x .now) (a .j) (q .1 .1 .0) (omega arith) (q .1 .1 .1), c .difference .ensures .1)
+    (c .difference .ensures .0 ∙ folded-upper (a .m) (a .rise .now) (a .fall .now) (a .x .now) (a .j) (q .1 .1 .0) (omega arith) (q .1 .1 .1), c .difference .ensures .1)
 
 pub folded-at-spec : {M : Type 1} → statement M
 folded-at-spec =

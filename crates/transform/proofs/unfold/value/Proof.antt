@@ -38,7 +38,7 @@ returns c =
     toZ-ofZ {w = w64} {z = c .weighted .result} (record { sfits = c .weighted .ok })
     ∙ c .weighted .ensures
     ∙ rw (toZ-ofZ {w = w32} (record { sfits = c .before .before .weighted-arg .given }), toZ-ofZ {w = w64} (record { sfits = c .before .weighted-arg2 .given }))
-    (sym (value-first (s .args .left .now) (s .args .right .now) (s .args .t .now) (s .args .n) (omega arith)))
+    (sym (value-first (s .args .rise .now) (s .args .fall .now) (s .args .t .now) (s .args .n) (omega arith)))
 
 mul-weighted-negated : tie.Need-mul-weighted-negated
 mul-weighted-negated c = search needs
@@ -74,7 +74,7 @@ returns-2 c =
     toZ-ofZ {w = w64} {z = c .weighted-negated .result} (record { sfits = c .weighted-negated .ok })
     ∙ c .weighted-negated .ensures
     ∙ rw (toZ-ofZ {w = w32} (record { sfits = c .before .before .weighted-negated-arg .given }), toZ-ofZ {w = w64} (record { sfits = c .before .weighted-negated-arg2 .given }))
-    (sym (value-second (s .args .left .now) (s .args .right .now) (s .args .t .now) (s .args .n) (omega arith) (omega arith)))
+    (sym (value-second (s .args .rise .now) (s .args .fall .now) (s .args .t .now) (s .args .n) (omega arith) (omega arith)))
 
 mul-if3 : tie.Need-mul-if3
 mul-if3 c = search needs
@@ -113,7 +113,7 @@ returns-3 c =
     toZ-ofZ {w = w64} {z = c .weighted-negated2 .result} (record { sfits = c .weighted-negated2 .ok })
     ∙ c .weighted-negated2 .ensures
     ∙ rw (toZ-ofZ {w = w32} (record { sfits = c .before .before .weighted-negated-arg3 .given }), toZ-ofZ {w = w64} (record { sfits = c .before .weighted-negated-arg4 .given }))
-    (sym (value-third (s .args .left .now) (s .args .right .now) (s .args .t .now) (s .args .n) (omega arith) (omega arith)))
+    (sym (value-third (s .args .rise .now) (s .args .fall .now) (s .args .t .now) (s .args .n) (omega arith) (omega arith)))
 
 mul-weighted-negated-7 : tie.Need-mul-weighted-negated-7
 mul-weighted-negated-7 c = search needs
@@ -146,7 +146,7 @@ returns-4 c =
     toZ-ofZ {w = w64} {z = c .weighted-negated3 .result} (record { sfits = c .weighted-negated3 .ok })
     ∙ c .weighted-negated3 .ensures
     ∙ rw (toZ-ofZ {w = w32} (record { sfits = c .before .before .weighted-negated-arg5 .given }), toZ-ofZ {w = w64} (record { sfits = c .before .weighted-negated-arg6 .given }))
-    (sym (value-fourth (s .args .left .now) (s .args .right .now) (s .args .t .now) (s .args .n) (omega arith) (omega arith)))
+    (sym (value-fourth (s .args .rise .now) (s .args .fall .now) (s .args .t .now) (s .args .n) (omega arith) (omega arith)))
 
 pub value-spec : {M : Type 1} → statement M
 value-spec =

@@ -11,13 +11,13 @@ use Rattle.transform.proofs.unfold.values.Statement.{statement}
 use Rattle.transform.proofs.unfold.values.Tie as tie
 
 abbrev Inv-loop : tie.InvT-loop
-Inv-loop left right t v₀ n₀ n-end v n = (n ≤ length v₀) × Filled (valueAt left right t) n v v₀
+Inv-loop rise fall t v₀ n₀ n-end v n = (n ≤ length v₀) × Filled (valueAt rise fall t) n v v₀
 
 abbrev μ-loop : tie.MeasureT-loop
-μ-loop left right t v₀ n₀ n-end v n = length v₀ - n
+μ-loop rise fall t v₀ n₀ n-end v n = length v₀ - n
 
 loop-holds : tie.Need-loop-holds Inv-loop μ-loop
-loop-holds c = (omega arith, filled-none (valueAt (c .args .left .now) (c .args .right .now) (c .args .t .now)) (c .args .v .now))
+loop-holds c = (omega arith, filled-none (valueAt (c .args .rise .now) (c .args .fall .now) (c .args .t .now)) (c .args .v .now))
 
 value-requires : tie.Need-value-requires Inv-loop μ-loop
 value-requires c κs = let q = c .before .before .pre in (q .0, (q .1 .1 .0, (omega (arith, q .1 .0), q .1 .1 .1)))
@@ -39,7 +39,7 @@ loop-again c =
     let l = c .before .before in
     let a = l .before .args in (
       omega arith,
-      filled-more (valueAt (a .left .now) (a .right .now) (a .t .now)) (l .loop .n) (l .loop .v) (a .v .now) _ (l .loop .inv .1)
+      filled-more (valueAt (a .rise .now) (a .fall .now) (a .t .now)) (l .loop .n) (l .loop .v) (a .v .now) _ (l .loop .inv .1)
           (omega (arith, l .loop .inv .1 .room))
           (toZ-ofZ {w = w64} {z = c .value .result} (record { sfits = c .value .ok }) ∙ c .value .ensures),
     )
@@ -51,7 +51,7 @@ returns : tie.Need-returns Inv-loop μ-loop
 returns c =
     let a = c .before .before .args in
     let e : c .before .loop .n ≡ length (a .v .now) = omega arith in
-    filled-all (valueAt (a .left .now) (a .right .now) (a .t .now)) (length (a .v .now)) (c .before .loop .v) (a .v .now) (rw e at (c .before .loop .inv .1)) refl
+    filled-all (valueAt (a .rise .now) (a .fall .now) (a .t .now)) (length (a .v .now)) (c .before .loop .v) (a .v .now) (rw e at (c .before .loop .inv .1)) refl
 
 pub values-spec : {M : Type 1} → statement M
 values-spec =
