@@ -5,6 +5,7 @@
 #include "lengths.h"
 #include "library.h"
 #include "plain.h"
+#include "step_table.h"
 #include <math.h>
 #include <stdio.h>
 #include <stdlib.h>
@@ -30,58 +31,54 @@ enum { LONGEST = 4095, BATCH = 4096 };
 static const size_t batches[LENGTHS] = {512, 256, 128, 64, 32, 32};
 
 /* For each length a recording of random samples between two hops of zeros, its coefficients by direct analysis at long joints, those of a batch at
- * short joints, and room for every result. The last hop of a batch is zeros too, so that its blocks are those of a recording of its own, of one
- * hop fewer. Sound begins with the run-in, so that each sample returns at its place in the padded recording. */
+ * short joints, a step table, plain C's levels of a batch by it, what they come back as, and the sound of that, and room for every result. The last
+ * hop of a batch is zeros too, so that its blocks are those of a recording of its own, of one hop fewer. Sound begins with the run-in, so that each
+ * sample returns at its place in the padded recording. */
 static int16_t all_padded[LENGTHS][(LONGEST + 2) * MOST_M], *padded;
 static int32_t all_spectra[LENGTHS][(LONGEST + 1) * MOST_M], *spectra;
 static int32_t all_short_joints[LENGTHS][BATCH], *short_joints;
+static uint8_t all_tables[LENGTHS][TABLE_ROOM], *table;
+static size_t table_lengths[LENGTHS], table_length;
+static int32_t all_levels[LENGTHS][BATCH], *levels;
+static int32_t all_restored[LENGTHS][BATCH], *restored;
+static int16_t all_restored_sound[LENGTHS][BATCH], *restored_sound;
 static int32_t coefficients[(LONGEST + 1) * MOST_M];
 static int16_t sound[(LONGEST + 1) * MOST_M];
 static int64_t tail[MOST_M];
 
 static uint32_t refused;
 
-#define ANALYSIS(whose, call)                                                 \
-    static void whose##_##call(size_t n, size_t blocks)                       \
-    {                                                                         \
-        refused |= whose.call(n, blocks, padded, coefficients);               \
+/* A call over a batch, and whether it is there and takes length l: a block is refused with 1 where its route, direct or short, does not. */
+#define CALL(whose, call, route, ...)                                               \
+    static void whose##_##call(size_t n, size_t blocks)                             \
+    {                                                                               \
+        refused |= whose.call(n, blocks, __VA_ARGS__);                              \
+    }                                                                               \
+    static int whose##_offers_##call(int l)                                         \
+    {                                                                               \
+        return whose.call && whose.route(lengths[l], 1, padded, coefficients) != 1; \
     }
 
-#define SYNTHESIS(whose, call, from)                                          \
-    static void whose##_##call(size_t n, size_t blocks)                       \
-    {                                                                         \
-        refused |= whose.call(n, blocks, from, sound);                        \
-    }
-
-#define CALLS(whose)                                                          \
-    ANALYSIS(whose, direct)                                                   \
-    ANALYSIS(whose, by_short_route)                                           \
-    ANALYSIS(whose, recording_direct)                                         \
-    ANALYSIS(whose, recording_short)                                          \
-    SYNTHESIS(whose, step, spectra)                                           \
-    SYNTHESIS(whose, synthesis, spectra)
-
-/* Whether it takes length l at all, and by the short route: a block is refused with 1 where it does not. */
-#define OFFERS(whose)                                                         \
-    static int whose##_offers(int l)                                          \
-    {                                                                         \
-        return whose.direct(lengths[l], 1, padded, coefficients) != 1;        \
-    }                                                                         \
-    static int whose##_offers_short(int l)                                    \
-    {                                                                         \
-        return whose.by_short_route(lengths[l], 1, padded, coefficients) != 1; \
-    }
+#define CALLS(whose)                                                                \
+    CALL(whose, direct, direct, padded, coefficients)                               \
+    CALL(whose, by_short_route, by_short_route, padded, coefficients)               \
+    CALL(whose, recording_direct, direct, padded, coefficients)                     \
+    CALL(whose, recording_short, by_short_route, padded, coefficients)              \
+    CALL(whose, direct_short_joints, direct, padded, coefficients)                  \
+    CALL(whose, by_short_route_short_joints, by_short_route, padded, coefficients)  \
+    CALL(whose, step, direct, spectra, sound)                                       \
+    CALL(whose, synthesis, direct, spectra, sound)                                  \
+    CALL(whose, step_short_joints, direct, short_joints, sound)                     \
+    CALL(whose, quantise, direct, table, table_length, spectra, coefficients)       \
+    CALL(whose, dequantise, direct, table, table_length, levels, coefficients)      \
+    CALL(whose, step_levels, direct, table, table_length, levels, sound)
 
 CALLS(library)
-OFFERS(library)
-ANALYSIS(library, direct_short_joints)
-ANALYSIS(library, by_short_route_short_joints)
-SYNTHESIS(library, step_short_joints, short_joints)
 #ifdef BEFORE
-/* the same calls of an earlier commit */
-extern const struct library before;
+/* the calls of an earlier commit, which has BEFORE bytes of them: one that it does not have yet is null */
+extern const struct library earlier;
+static struct library before;
 CALLS(before)
-OFFERS(before)
 #endif
 
 #define PLAIN_ANALYSIS(call)                                                  \
@@ -99,6 +96,21 @@ OFFERS(before)
             call(n, 0, 0, tail, spectra + b * (n / 2), sound + b * (n / 2));  \
     }
 
+#define PLAIN_LEVELS(call, from)                                                                            \
+    static void run_##call(size_t n, size_t blocks)                                                         \
+    {                                                                                                       \
+        for (size_t b = 0; b < blocks; b++)                                                                 \
+            refused |= call(n, table, table_length, from + b * (n / 2), coefficients + b * (n / 2));        \
+    }
+
+#define PLAIN_STEP_LEVELS(call)                                                                             \
+    static void run_##call(size_t n, size_t blocks)                                                         \
+    {                                                                                                       \
+        memset(tail, 0, sizeof tail);                                                                       \
+        for (size_t b = 0; b < blocks; b++)                                                                 \
+            refused |= call(n, 0, 0, table, table_length, tail, levels + b * (n / 2), sound + b * (n / 2)); \
+    }
+
 PLAIN_ANALYSIS(plain_o3_analyse_direct)
 PLAIN_ANALYSIS(plain_o3_analyse_folded)
 PLAIN_ANALYSIS(plain_native_analyse_direct)
@@ -107,6 +119,12 @@ PLAIN_STEP(plain_o3_step_direct)
 PLAIN_STEP(plain_o3_step_folded)
 PLAIN_STEP(plain_native_step_direct)
 PLAIN_STEP(plain_native_step_folded)
+PLAIN_LEVELS(plain_o3_quantise, spectra)
+PLAIN_LEVELS(plain_o3_dequantise, levels)
+PLAIN_LEVELS(plain_native_quantise, spectra)
+PLAIN_LEVELS(plain_native_dequantise, levels)
+PLAIN_STEP_LEVELS(plain_o3_step_levels)
+PLAIN_STEP_LEVELS(plain_native_step_levels)
 
 static int plain_offers(int l)
 {
@@ -232,8 +250,27 @@ static void avtx_synthesis(size_t n, size_t blocks)
 }
 #endif
 
-/* What a contender's result is held to before it is timed. */
-enum result { COEFFICIENTS, NEAR_COEFFICIENTS, FLOAT_COEFFICIENTS, SHORT_JOINTS, NEAR_SHORT_JOINTS, SOUND, FLOAT_SOUND };
+/* What a contender's result is held to before it is timed, numbers or sound behind the run-in, and how far it may be from it. */
+enum result {
+    COEFFICIENTS, NEAR_COEFFICIENTS, FLOAT_COEFFICIENTS, SHORT_JOINTS, NEAR_SHORT_JOINTS, SOUND, FLOAT_SOUND, LEVELS, RESTORED, RESTORED_SOUND
+};
+
+static const struct {
+    int32_t **numbers;
+    int16_t **sound;
+    long apart;
+} expected[] = {
+    [COEFFICIENTS] = {&spectra, NULL, 0},
+    [NEAR_COEFFICIENTS] = {&spectra, NULL, 16},
+    [FLOAT_COEFFICIENTS] = {&spectra, NULL, 64},
+    [SHORT_JOINTS] = {&short_joints, NULL, 0},
+    [NEAR_SHORT_JOINTS] = {&short_joints, NULL, 16},
+    [SOUND] = {NULL, &padded, 0},
+    [FLOAT_SOUND] = {NULL, &padded, 1},
+    [LEVELS] = {&levels, NULL, 0},
+    [RESTORED] = {&restored, NULL, 0},
+    [RESTORED_SOUND] = {NULL, &restored_sound, 0},
+};
 
 struct contender {
     const char *name;
@@ -247,17 +284,27 @@ struct contender {
 };
 
 static struct contender contenders[] = {
-#define ANALYSES(name, whose)                                                 \
-    {name ", direct", whose##_direct, whose##_offers, COEFFICIENTS, 0, {0}, {0}}, \
-    {name ", short route", whose##_by_short_route, whose##_offers_short, NEAR_COEFFICIENTS, 0, {0}, {0}}, \
-    {name ", recording, direct", whose##_recording_direct, whose##_offers, COEFFICIENTS, 0, {0}, {0}}, \
-    {name ", recording, short route", whose##_recording_short, whose##_offers_short, NEAR_COEFFICIENTS, 0, {0}, {0}}
-#define SYNTHESES(name, whose)                                                \
-    {name ", step", whose##_step, whose##_offers, SOUND, 0, {0}, {0}},        \
-    {name ", recording, synthesis", whose##_synthesis, whose##_offers, SOUND, 0, {0}, {0}}
+#define ROW(name, whose, call, result) {name, whose##_##call, whose##_offers_##call, result, 0, {0}, {0}}
+#define ANALYSES(name, whose)                                                               \
+    ROW(name ", direct", whose, direct, COEFFICIENTS),                                      \
+    ROW(name ", short route", whose, by_short_route, NEAR_COEFFICIENTS),                    \
+    ROW(name ", recording, direct", whose, recording_direct, COEFFICIENTS),                 \
+    ROW(name ", recording, short route", whose, recording_short, NEAR_COEFFICIENTS),        \
+    ROW(name ", direct, short joints", whose, direct_short_joints, SHORT_JOINTS),           \
+    ROW(name ", short route, short joints", whose, by_short_route_short_joints, NEAR_SHORT_JOINTS)
+#define SYNTHESES(name, whose)                                                              \
+    ROW(name ", step", whose, step, SOUND),                                                 \
+    ROW(name ", recording, synthesis", whose, synthesis, SOUND),                            \
+    ROW(name ", step, short joints", whose, step_short_joints, SOUND)
+#define ON_LEVELS(name, whose)                                                              \
+    ROW(name ", quantise", whose, quantise, LEVELS),                                        \
+    ROW(name ", dequantise", whose, dequantise, RESTORED),                                  \
+    ROW(name ", step on levels", whose, step_levels, RESTORED_SOUND)
+#define PLAIN_ON_LEVELS(variant, options, native)                                                                     \
+    {"plain C, quantise, " options, run_##variant##_quantise, plain_offers, LEVELS, native, {0}, {0}},                \
+    {"plain C, dequantise, " options, run_##variant##_dequantise, plain_offers, RESTORED, native, {0}, {0}},          \
+    {"plain C, step on levels, " options, run_##variant##_step_levels, plain_offers, RESTORED_SOUND, native, {0}, {0}}
     ANALYSES("library", library),
-    {"library, direct, short joints", library_direct_short_joints, library_offers, SHORT_JOINTS, 0, {0}, {0}},
-    {"library, short route, short joints", library_by_short_route_short_joints, library_offers_short, NEAR_SHORT_JOINTS, 0, {0}, {0}},
 #ifdef BEFORE
     ANALYSES("before", before),
 #endif
@@ -272,7 +319,6 @@ static struct contender contenders[] = {
     {"FFmpeg av_tx MDCT (float)", avtx_analysis, avtx_offers, FLOAT_COEFFICIENTS, 0, {0}, {0}},
 #endif
     SYNTHESES("library", library),
-    {"library, step, short joints", library_step_short_joints, library_offers, SOUND, 0, {0}, {0}},
 #ifdef BEFORE
     SYNTHESES("before", before),
 #endif
@@ -286,6 +332,12 @@ static struct contender contenders[] = {
 #ifdef HAVE_AVTX
     {"FFmpeg av_tx MDCT (float), step", avtx_synthesis, avtx_offers, FLOAT_SOUND, 0, {0}, {0}},
 #endif
+    ON_LEVELS("library", library),
+#ifdef BEFORE
+    ON_LEVELS("before", before),
+#endif
+    PLAIN_ON_LEVELS(plain_o3, "-O3", 0),
+    PLAIN_ON_LEVELS(plain_native, "-O3 -march=native", 1),
 };
 
 enum { CONTENDERS = sizeof contenders / sizeof contenders[0] };
@@ -295,6 +347,20 @@ static double seconds(clockid_t clock)
     struct timespec t;
     clock_gettime(clock, &t);
     return (double)t.tv_sec + (double)t.tv_nsec * 1e-9;
+}
+
+/* Makes the step table of length l, and plain C's results by it. */
+static void prepare_levels(int l)
+{
+    size_t n = lengths[l], m = n / 2;
+    int64_t zeros[MOST_M] = {0};
+    table_lengths[l] = write_table(all_tables[l], m);
+    for (size_t b = 0; b < batches[l]; b++) {
+        int32_t *level = all_levels[l] + b * m;
+        plain_o3_quantise(n, all_tables[l], table_lengths[l], all_spectra[l] + b * m, level);
+        plain_o3_dequantise(n, all_tables[l], table_lengths[l], level, all_restored[l] + b * m);
+        plain_o3_step_direct(n, 0, 0, zeros, all_restored[l] + b * m, all_restored_sound[l] + b * m);
+    }
 }
 
 /* Makes what each length needs. */
@@ -312,6 +378,7 @@ static void prepare(void)
             plain_o3_analyse_direct(n, 0, 0, all_padded[l] + b * m, all_spectra[l] + b * m);
         for (size_t b = 0; b < batches[l]; b++)
             plain_o3_analyse_direct(n, b > 0, 1, all_padded[l] + b * m, all_short_joints[l] + b * m);
+        prepare_levels(l);
         for (size_t i = 0; i < n; i++)
             windows[l][i] = (float)sin(3.141592653589793 * (double)(2 * i + 1) / (double)(2 * n));
 #ifdef HAVE_FFTW
@@ -329,6 +396,11 @@ static void turn_to(int l)
     padded = all_padded[l];
     spectra = all_spectra[l];
     short_joints = all_short_joints[l];
+    table = all_tables[l];
+    table_length = table_lengths[l];
+    levels = all_levels[l];
+    restored = all_restored[l];
+    restored_sound = all_restored_sound[l];
     window = windows[l];
 #ifdef HAVE_FFTW
     plan = plans[l];
@@ -341,7 +413,14 @@ static void turn_to(int l)
 #endif
 }
 
-/* Runs a contender's batch once, where it is offered, and holds its coefficients to those of plain C, or its sound to the recording. */
+/* How far number i of a result is from what is expected. */
+static long off(enum result result, size_t i)
+{
+    int16_t **heard = expected[result].sound;
+    return labs(heard ? (long)sound[i] - (*heard)[i] : (long)coefficients[i] - (*expected[result].numbers)[i]);
+}
+
+/* Runs a contender's batch once, where it is offered, and holds its result to what is expected. */
 static void verify(struct contender *c, int l)
 {
     size_t n = lengths[l], m = n / 2, blocks = batches[l];
@@ -353,20 +432,8 @@ static void verify(struct contender *c, int l)
     memset(sound, 0x55, sizeof sound);
     refused = 0;
     c->run(n, blocks);
-    for (size_t i = 0; i < blocks * m; i++) {
-        long apart = labs((long)coefficients[i] - spectra[i]);
-        long apart_short = labs((long)coefficients[i] - short_joints[i]);
-        long off = i < m ? 0 : labs((long)sound[i] - padded[i]);
-        switch (c->result) {
-        case COEFFICIENTS: wrong |= apart != 0; break;
-        case NEAR_COEFFICIENTS: wrong |= apart > 16; break;
-        case FLOAT_COEFFICIENTS: wrong |= apart > 64; break;
-        case SHORT_JOINTS: wrong |= apart_short != 0; break;
-        case NEAR_SHORT_JOINTS: wrong |= apart_short > 16; break;
-        case SOUND: wrong |= off != 0; break;
-        case FLOAT_SOUND: wrong |= off > 1; break;
-        }
-    }
+    for (size_t i = expected[c->result].sound ? m : 0; i < blocks * m; i++)
+        wrong |= off(c->result, i) > expected[c->result].apart;
     if (wrong || refused) {
         fprintf(stderr, "bench: %s gives another result at N = %zu\n", c->name, n);
         exit(1);
@@ -414,12 +481,24 @@ static const struct contender *named(const char *name)
     exit(1);
 }
 
+/* Whether it is offered at any length: if not, it has no row. */
+static int offered_at_all(const struct contender *c)
+{
+    int offered = 0;
+    for (int l = 0; l < LENGTHS; l++)
+        offered |= c->offered[l];
+    return offered;
+}
+
 static void print_ratio(const char *a, const char *b)
 {
+    const struct contender *over = named(a), *under = named(b);
+    if (!offered_at_all(over) || !offered_at_all(under))
+        return;
     printf("| %s ÷ %s |", a, b);
     for (int l = 0; l < LENGTHS; l++) {
-        if (named(a)->offered[l] && named(b)->offered[l])
-            printf(" %.2f |", named(a)->ns[l] / named(b)->ns[l]);
+        if (over->offered[l] && under->offered[l])
+            printf(" %.2f |", over->ns[l] / under->ns[l]);
         else
             printf(NOT_OFFERED);
     }
@@ -430,6 +509,8 @@ static void print_times(void)
 {
     print_head("ns per block");
     for (int c = 0; c < CONTENDERS; c++) {
+        if (!offered_at_all(&contenders[c]))
+            continue;
         printf("| %s |", contenders[c].name);
         for (int l = 0; l < LENGTHS; l++) {
             if (contenders[c].offered[l])
@@ -441,17 +522,26 @@ static void print_times(void)
     }
 }
 
+#ifdef BEFORE
+/* each call of an earlier commit beside the same of this one */
+static void print_ratios_to_before(void)
+{
+    for (int c = 0; c < CONTENDERS; c++) {
+        char name[100];
+        if (strncmp(contenders[c].name, "before", 6))
+            continue;
+        snprintf(name, sizeof name, "library%s", contenders[c].name + 6);
+        print_ratio(name, contenders[c].name);
+    }
+}
+#endif
+
 static void print_ratios(void)
 {
     printf("\n");
     print_head("ratio");
 #ifdef BEFORE
-    print_ratio("library, direct", "before, direct");
-    print_ratio("library, short route", "before, short route");
-    print_ratio("library, recording, direct", "before, recording, direct");
-    print_ratio("library, recording, short route", "before, recording, short route");
-    print_ratio("library, step", "before, step");
-    print_ratio("library, recording, synthesis", "before, recording, synthesis");
+    print_ratios_to_before();
 #endif
     print_ratio("library, direct", "plain C, folded, -O3");
     print_ratio("library, direct", "plain C, folded, -O3 -march=native");
@@ -474,6 +564,13 @@ static void print_ratios(void)
     print_ratio("library, direct", "FFmpeg av_tx MDCT (float)");
     print_ratio("library, step", "FFmpeg av_tx MDCT (float), step");
 #endif
+    print_ratio("library, quantise", "plain C, quantise, -O3");
+    print_ratio("library, quantise", "plain C, quantise, -O3 -march=native");
+    print_ratio("library, dequantise", "plain C, dequantise, -O3");
+    print_ratio("library, dequantise", "plain C, dequantise, -O3 -march=native");
+    print_ratio("library, step on levels", "plain C, step on levels, -O3");
+    print_ratio("library, step on levels", "plain C, step on levels, -O3 -march=native");
+    print_ratio("library, step on levels", "library, step");
 }
 
 /* The sizes of recordings that are timed, and the calls over them. */
@@ -558,6 +655,9 @@ static void count_all(void)
 
 int main(int argc, char **argv)
 {
+#ifdef BEFORE
+    memcpy(&before, &earlier, BEFORE < sizeof before ? BEFORE : sizeof before);
+#endif
     plain_o3_init();
     prepare();
     if (argc > 1 && !strcmp(argv[1], "count")) {

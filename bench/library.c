@@ -11,14 +11,28 @@
         return refused;                                                                                                   \
     }
 
+/* the body of a batch of steps from a fresh stream on, each with these arguments for block b between its shapes and its hop */
+#define STEPS(call, shape, ...)                                                                                           \
+    static int64_t state[DAPPLESCREE_STATE];                                                                              \
+    uint32_t refused = dapplescree_stream_fresh(n, state, DAPPLESCREE_STATE);                                             \
+    for (size_t b = 0; b < blocks; b++)                                                                                   \
+        refused |= call(state, DAPPLESCREE_STATE, (uint32_t)b, b > 0 ? shape : 0, shape, __VA_ARGS__,                     \
+                        sound + b * (n / 2), n / 2);                                                                      \
+    return refused;
+
 #define STEP(name, shape)                                                                                                 \
     static uint32_t name(size_t n, size_t blocks, const int32_t *spectra, int16_t *sound)                                 \
     {                                                                                                                     \
-        static int64_t state[DAPPLESCREE_STATE];                                                                          \
-        uint32_t refused = dapplescree_stream_fresh(n, state, DAPPLESCREE_STATE);                                         \
+        STEPS(dapplescree_stream_step, shape, spectra + b * (n / 2), n / 2)                                               \
+    }
+
+#define LEVELS(name, call)                                                                                                \
+    static uint32_t name(size_t n, size_t blocks, const uint8_t *table, size_t table_length,                              \
+                         const int32_t *from, int32_t *to)                                                                \
+    {                                                                                                                     \
+        uint32_t refused = 0;                                                                                             \
         for (size_t b = 0; b < blocks; b++)                                                                               \
-            refused |= dapplescree_stream_step(state, DAPPLESCREE_STATE, (uint32_t)b, b > 0 ? shape : 0, shape,           \
-                                               spectra + b * (n / 2), n / 2, sound + b * (n / 2), n / 2);                 \
+            refused |= call(n, table, table_length, from + b * (n / 2), n / 2, to + b * (n / 2), n / 2);                  \
         return refused;                                                                                                   \
     }
 
@@ -28,6 +42,13 @@ ANALYSIS(by_short_route, dapplescree_analyse_short, 0)
 ANALYSIS(by_short_route_short_joints, dapplescree_analyse_short, 1)
 STEP(step, 0)
 STEP(step_short_joints, 1)
+LEVELS(quantise, dapplescree_quantise)
+LEVELS(dequantise, dapplescree_dequantise)
+
+static uint32_t step_levels(size_t n, size_t blocks, const uint8_t *table, size_t table_length, const int32_t *levels, int16_t *sound)
+{
+    STEPS(dapplescree_stream_step_levels, 0, table, table_length, levels + b * (n / 2), n / 2)
+}
 
 static uint32_t recording_direct(size_t n, size_t blocks, const int16_t *padded, int32_t *coefficients)
 {
@@ -50,4 +71,5 @@ static uint32_t synthesis(size_t n, size_t blocks, const int32_t *spectra, int16
 
 const struct library library = {
     direct, by_short_route, recording_direct, recording_short, step, synthesis, direct_short_joints, by_short_route_short_joints, step_short_joints,
+    quantise, dequantise, step_levels,
 };

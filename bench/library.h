@@ -1,5 +1,6 @@
 /* The library's calls over a batch of blocks, as bench.c times them: each returns the refusals, or'ed. A checkout of an earlier commit is timed
- * beside this one under the name `before`, by its own library.c, for the calls as they were: so what is new goes to the end, and is not asked of it. */
+ * beside this one under the name `before`, by its own library.c and library.h, for the calls as they were: so what is new goes to the end, and what
+ * lies beyond the bytes of its struct is not asked of it. */
 #include <stddef.h>
 #include <stdint.h>
 
@@ -16,6 +17,10 @@ struct library {
     uint32_t (*direct_short_joints)(size_t, size_t, const int16_t *, int32_t *);
     uint32_t (*by_short_route_short_joints)(size_t, size_t, const int16_t *, int32_t *);
     uint32_t (*step_short_joints)(size_t, size_t, const int32_t *, int16_t *);
+    /* n, blocks, a step table's bytes and how many; coefficients and their levels, levels and what they come back as, levels and their sound */
+    uint32_t (*quantise)(size_t, size_t, const uint8_t *, size_t, const int32_t *, int32_t *);
+    uint32_t (*dequantise)(size_t, size_t, const uint8_t *, size_t, const int32_t *, int32_t *);
+    uint32_t (*step_levels)(size_t, size_t, const uint8_t *, size_t, const int32_t *, int16_t *);
 };
 
 extern const struct library library;

@@ -191,3 +191,84 @@ void PLAIN(step_folded)(size_t n, uint32_t left, uint32_t right, int64_t *tail, 
 {
     BY_LENGTH(step_folded, left, right, tail, coefficients, hop)
 }
+
+/* A number of a step table, an optional minus and 1 to 5 digits, with no leading zero and no -0, and the byte that closes it. Returns the place
+ * behind that byte, or null where there is no such number. */
+static const uint8_t *number(const uint8_t *at, const uint8_t *end, uint8_t closing, int32_t *value)
+{
+    int minus = at < end && *at == '-', digits = 0;
+    int32_t sum = 0;
+    const uint8_t *first = at + minus;
+    for (at = first; at < end && digits < 5 && *at >= '0' && *at <= '9'; at++, digits++)
+        sum = 10 * sum + (*at - '0');
+    if (digits == 0 || (*first == '0' && (minus || digits > 1)) || at == end || *at != closing)
+        return NULL;
+    *value = minus ? -sum : sum;
+    return at + 1;
+}
+
+/* The step of each of m coefficients from a table's bytes; returns 0, or what turns the table away. A 9 goes before the first joint at fault. */
+static uint32_t read_steps(size_t m, const uint8_t *table, size_t table_length, int32_t *steps)
+{
+    const uint8_t *end = table + table_length;
+    int32_t next = 0;
+    uint32_t fault = 0;
+    while (table < end) {
+        int32_t first, last, step;
+        if (!(table = number(table, end, ',', &first)) || !(table = number(table, end, ',', &last))
+            || !(table = number(table, end, '\n', &step)) || step < 1 || step > 65536 || first < 0 || first > last || last >= (int32_t)m)
+            return 9;
+        if (!fault && first != next)
+            fault = first > next ? 10 : 11;
+        for (int32_t k = first; k <= last; k++)
+            steps[k] = step;
+        next = last + 1;
+    }
+    return fault ? fault : next < (int32_t)m ? 10 : 0;
+}
+
+/* rnd(a / step), an exact half going away from zero, by a division of 32 bits */
+INLINE int32_t level(int32_t a, uint32_t step)
+{
+    int32_t size = (int32_t)(((uint32_t)(a < 0 ? -a : a) + step / 2) / step);
+    return a < 0 ? -size : size;
+}
+
+/* level × step, clipped to a coefficient's limits */
+INLINE int32_t restored(int32_t level, int32_t step)
+{
+    int64_t a = (int64_t)level * step;
+    return (int32_t)(a < -536870912 ? -536870912 : a > 536870912 ? 536870912 : a);
+}
+
+uint32_t PLAIN(quantise)(size_t n, const uint8_t *table, size_t table_length, const int32_t *coefficients, int32_t *levels)
+{
+    int32_t steps[MOST_M];
+    uint32_t refused = read_steps(n / 2, table, table_length, steps);
+    if (refused)
+        return refused;
+    for (size_t k = 0; k < n / 2; k++)
+        levels[k] = level(coefficients[k], (uint32_t)steps[k]);
+    return 0;
+}
+
+uint32_t PLAIN(dequantise)(size_t n, const uint8_t *table, size_t table_length, const int32_t *levels, int32_t *coefficients)
+{
+    int32_t steps[MOST_M];
+    uint32_t refused = read_steps(n / 2, table, table_length, steps);
+    if (refused)
+        return refused;
+    for (size_t k = 0; k < n / 2; k++)
+        coefficients[k] = restored(levels[k], steps[k]);
+    return 0;
+}
+
+uint32_t PLAIN(step_levels)(size_t n, uint32_t left, uint32_t right, const uint8_t *table, size_t table_length, int64_t *tail,
+                            const int32_t *levels, int16_t *hop)
+{
+    int32_t coefficients[MOST_M];
+    uint32_t refused = PLAIN(dequantise)(n, table, table_length, levels, coefficients);
+    if (!refused)
+        PLAIN(step_folded)(n, left, right, tail, coefficients, hop);
+    return refused;
+}

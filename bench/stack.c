@@ -3,6 +3,7 @@
  * not show. */
 #include "dapplescree.h"
 #include "lengths.h"
+#include "step_table.h"
 #include <stdint.h>
 #include <stdlib.h>
 #include <string.h>
@@ -13,9 +14,10 @@ enum { HOPS = 3, BLOCKS = HOPS + 1, ROOM = 1 << 20 };
 static int16_t samples[BLOCKS * MOST_M], sound[HOPS * MOST_M];
 static int32_t spectra[BLOCKS * MOST_M], coefficients[BLOCKS * MOST_M];
 static int64_t state[DAPPLESCREE_STATE];
-static uint8_t page[DAPPLESCREE_PAGE(MOST_N, HOPS)];
+static uint8_t page[DAPPLESCREE_PAGE(MOST_N, HOPS)], table[TABLE_ROOM];
+static uint32_t distance[1];
 
-static size_t n, m;
+static size_t n, m, table_length;
 static uint32_t left, right;
 
 /* a call that does nothing: it takes its return address */
@@ -45,11 +47,17 @@ static uint32_t fresh(void)
     return dapplescree_stream_fresh(n, state, DAPPLESCREE_STATE);
 }
 
-/* it runs more than once on a stream, and each time brings the block that is expected */
+/* a step runs more than once on a stream, and each time brings the block that is expected */
 static uint32_t step(void)
 {
     uint32_t number = (uint32_t)state[DAPPLESCREE_EXPECTED];
     return dapplescree_stream_step(state, DAPPLESCREE_STATE, number, left, right, spectra, m, sound, m);
+}
+
+static uint32_t step_levels(void)
+{
+    uint32_t number = (uint32_t)state[DAPPLESCREE_EXPECTED];
+    return dapplescree_stream_step_levels(state, DAPPLESCREE_STATE, number, left, right, table, table_length, spectra, m, sound, m);
 }
 
 static uint32_t recording_direct(void)
@@ -72,6 +80,23 @@ static uint32_t printed(void)
     return dapplescree_page(n, HOPS, spectra, BLOCKS * m, page, DAPPLESCREE_PAGE(n, HOPS));
 }
 
+static uint32_t quantise(void)
+{
+    return dapplescree_quantise(n, table, table_length, spectra, m, coefficients, m);
+}
+
+/* every number is a level */
+static uint32_t dequantise(void)
+{
+    return dapplescree_dequantise(n, table, table_length, spectra, m, coefficients, m);
+}
+
+/* of the direct route, which every length has */
+static uint32_t told_distance(void)
+{
+    return dapplescree_told_distance(n, 0, table, table_length, distance, 1);
+}
+
 static const struct call {
     const char *name;
     uint32_t (*run)(void);
@@ -84,6 +109,10 @@ static const struct call {
     {"recording, short route", recording_short},
     {"recording, synthesis", synthesis},
     {"page", printed},
+    {"quantise", quantise},
+    {"dequantise", dequantise},
+    {"told distance", told_distance},
+    {"step on levels", step_levels},
 };
 
 enum { CALLS = sizeof calls / sizeof calls[0] };
@@ -147,11 +176,12 @@ static size_t bytes(uint32_t (*call)(void))
     return deepest(call) - deepest(call_nothing) + sizeof(void *);
 }
 
-/* Turns to one length, with a fresh stream of it where it is offered, and else one of no length. */
+/* Turns to one length and its step table, with a fresh stream of it where it is offered, and else one of no length. */
 static void turn_to(size_t length)
 {
     n = length;
     m = n / 2;
+    table_length = write_table(table, m);
     memset(state, 0, sizeof state);
     fresh();
 }

@@ -1,4 +1,6 @@
 //! The library held against the reference, call by call.
+mod steps;
+
 use crate::inputs::*;
 use crate::library;
 use crate::reference::{offered, page_length, shaped, tail_limit, Bank, Route, Shapes};
@@ -794,6 +796,7 @@ pub fn run(bank: Bank, seed: u64) -> u64 {
         compare.recordings(n);
         compare.pages(n);
         compare.round_trips(n);
+        compare.step_tables(n);
     }
     compare.calls
 }

@@ -41,6 +41,38 @@ extern "C" {
         samples_length: usize,
     ) -> u32;
     fn dapplescree_page(n: usize, hops: usize, coefficients: *const i32, coefficients_length: usize, page: *mut u8, page_length: usize) -> u32;
+    fn dapplescree_quantise(
+        n: usize,
+        table: *const u8,
+        table_length: usize,
+        coefficients: *const i32,
+        coefficients_length: usize,
+        levels: *mut i32,
+        levels_length: usize,
+    ) -> u32;
+    fn dapplescree_dequantise(
+        n: usize,
+        table: *const u8,
+        table_length: usize,
+        levels: *const i32,
+        levels_length: usize,
+        coefficients: *mut i32,
+        coefficients_length: usize,
+    ) -> u32;
+    fn dapplescree_told_distance(n: usize, route: u32, table: *const u8, table_length: usize, distance: *mut u32, distance_length: usize) -> u32;
+    fn dapplescree_stream_step_levels(
+        state: *mut i64,
+        state_length: usize,
+        number: u32,
+        left: u32,
+        right: u32,
+        table: *const u8,
+        table_length: usize,
+        levels: *const i32,
+        levels_length: usize,
+        hop: *mut i16,
+        hop_length: usize,
+    ) -> u32;
 }
 
 // Each pointer and length below come from one slice, and slices lent by & and &mut do not overlap.
@@ -76,4 +108,22 @@ pub fn synthesise_recording(n: usize, hops: usize, x: &[i32], out: &mut [i16]) -
 
 pub fn page(n: usize, hops: usize, x: &[i32], out: &mut [u8]) -> u32 {
     unsafe { dapplescree_page(n, hops, x.as_ptr(), x.len(), out.as_mut_ptr(), out.len()) }
+}
+
+pub fn quantise(n: usize, table: &[u8], x: &[i32], out: &mut [i32]) -> u32 {
+    unsafe { dapplescree_quantise(n, table.as_ptr(), table.len(), x.as_ptr(), x.len(), out.as_mut_ptr(), out.len()) }
+}
+
+pub fn dequantise(n: usize, table: &[u8], levels: &[i32], out: &mut [i32]) -> u32 {
+    unsafe { dapplescree_dequantise(n, table.as_ptr(), table.len(), levels.as_ptr(), levels.len(), out.as_mut_ptr(), out.len()) }
+}
+
+pub fn told_distance(n: usize, route: u32, table: &[u8], out: &mut [u32]) -> u32 {
+    unsafe { dapplescree_told_distance(n, route, table.as_ptr(), table.len(), out.as_mut_ptr(), out.len()) }
+}
+
+pub fn stream_step_levels(state: &mut [i64], number: u32, (left, right): Shapes, table: &[u8], levels: &[i32], out: &mut [i16]) -> u32 {
+    let (state, length) = (state.as_mut_ptr(), state.len());
+    let (lines, bytes, hop, samples) = (table.as_ptr(), table.len(), out.as_mut_ptr(), out.len());
+    unsafe { dapplescree_stream_step_levels(state, length, number, left, right, lines, bytes, levels.as_ptr(), levels.len(), hop, samples) }
 }

@@ -7,6 +7,8 @@ mod inputs;
 #[cfg(library)]
 mod library;
 mod reference;
+#[cfg(library)]
+mod tables;
 #[cfg(not(library))]
 mod vectors;
 

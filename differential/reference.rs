@@ -1,4 +1,4 @@
-//! Document 01, with P1, P2 and P4 to P7 of document 02, written out anew: exact series, naive sums, rounding by size. It shares no table with any other file.
+//! Document 01, with P1, P2 and P4 to P8 of document 02, written out anew: exact series, naive sums, rounding by size. It shares no table with any other file.
 
 /// A natural number of any size, in base 2^64, lowest digit first.
 #[derive(Clone)]
@@ -109,6 +109,7 @@ pub const TAIL: usize = 3;
 pub const STATE: usize = TAIL + STORAGE;
 pub const COEFFICIENT_LIMIT: i32 = 536_870_912;
 pub const HOPS: usize = 4095;
+pub const LARGEST_STEP: i64 = 65_536;
 
 #[derive(Clone, Copy, Debug, PartialEq)]
 pub enum Route {
@@ -313,33 +314,85 @@ impl Bank {
     }
 
     pub fn stream_step(&self, state: &mut [i64], number: u32, shapes: Shapes, x: &[i32], out: &mut [i16]) -> u32 {
-        if state.len() != STATE {
-            return 2;
-        }
-        let Some(n) = LENGTHS.into_iter().find(|&n| n as i64 == state[0]) else {
-            return 4;
+        let n = match expecting(state, number, shapes) {
+            Ok(n) => n,
+            Err(cause) => return cause,
         };
-        let m = n / 2;
-        let limit = i128::from(tail_limit(n));
-        if state[TAIL..TAIL + m].iter().any(|&t| i128::from(t) < -limit || i128::from(t) > limit) {
-            return 4;
-        }
-        if i64::from(number) != state[EXPECTED] {
-            return 7;
-        }
-        if !shaped(shapes) || i64::from(shapes.0) != state[SHAPE] {
-            return 8;
-        }
-        if x.len() != m || out.len() != m {
+        if x.len() != n / 2 || out.len() != n / 2 {
             return 2;
         }
         if beyond(x) {
             return 3;
         }
-        out.copy_from_slice(&self.advance(n, &mut state[TAIL..], shapes, x));
+        self.take(state, number, shapes, x, out);
+        0
+    }
+
+    /// A step on levels: any number is one.
+    pub fn stream_step_levels(&self, state: &mut [i64], number: u32, shapes: Shapes, table: &[u8], levels: &[i32], out: &mut [i16]) -> u32 {
+        let checked = expecting(state, number, shapes).and_then(|n| steps(n / 2, table));
+        let steps = match checked {
+            Ok(steps) => steps,
+            Err(cause) => return cause,
+        };
+        if levels.len() != steps.len() || out.len() != steps.len() {
+            return 2;
+        }
+        self.take(state, number, shapes, &backs(levels, &steps), out);
+        0
+    }
+
+    /// A step that nothing refuses.
+    fn take(&self, state: &mut [i64], number: u32, shapes: Shapes, x: &[i32], out: &mut [i16]) {
+        out.copy_from_slice(&self.advance(state[0] as usize, &mut state[TAIL..], shapes, x));
         // after the last number it is 2^32, which no block bears
         state[EXPECTED] = i64::from(number) + 1;
         state[SHAPE] = i64::from(shapes.1);
+    }
+
+    pub fn quantise(&self, n: usize, table: &[u8], x: &[i32], out: &mut [i32]) -> u32 {
+        let steps = match steps_at(Route::Direct, n, table) {
+            Ok(steps) => steps,
+            Err(cause) => return cause,
+        };
+        if x.len() != steps.len() || out.len() != steps.len() {
+            return 2;
+        }
+        if beyond(x) {
+            return 3;
+        }
+        for k in 0..x.len() {
+            out[k] = level(x[k], steps[k]);
+        }
+        0
+    }
+
+    pub fn dequantise(&self, n: usize, table: &[u8], levels: &[i32], out: &mut [i32]) -> u32 {
+        let steps = match steps_at(Route::Direct, n, table) {
+            Ok(steps) => steps,
+            Err(cause) => return cause,
+        };
+        if levels.len() != steps.len() || out.len() != steps.len() {
+            return 2;
+        }
+        out.copy_from_slice(&backs(levels, &steps));
+        0
+    }
+
+    pub fn told_distance(&self, n: usize, route: u32, table: &[u8], out: &mut [u32]) -> u32 {
+        let route = match route {
+            0 => Route::Direct,
+            1 => Route::Short,
+            _ => return 1,
+        };
+        let steps = match steps_at(route, n, table) {
+            Ok(steps) => steps,
+            Err(cause) => return cause,
+        };
+        if out.len() != 1 {
+            return 2;
+        }
+        out[0] = distance(route, &steps);
         0
     }
 
@@ -402,6 +455,94 @@ impl Bank {
         out.copy_from_slice(text.as_bytes());
         0
     }
+}
+
+/// The length of a stream, or the first cause why it does not take a block of this number with these shapes.
+fn expecting(state: &[i64], number: u32, shapes: Shapes) -> Result<usize, u32> {
+    if state.len() != STATE {
+        return Err(2);
+    }
+    let n = LENGTHS.into_iter().find(|&n| n as i64 == state[0]).ok_or(4u32)?;
+    let limit = i128::from(tail_limit(n));
+    if state[TAIL..TAIL + n / 2].iter().any(|&t| i128::from(t) < -limit || i128::from(t) > limit) {
+        return Err(4);
+    }
+    if i64::from(number) != state[EXPECTED] {
+        return Err(7);
+    }
+    if !shaped(shapes) || i64::from(shapes.0) != state[SHAPE] {
+        return Err(8);
+    }
+    Ok(n)
+}
+
+/// The number that a field writes. An optional minus and 1 to 5 digits without a leading zero and without -0 is the form in which a number is
+/// printed.
+fn written(field: &[u8]) -> Option<i64> {
+    let text = std::str::from_utf8(field).ok()?;
+    let number: i64 = text.parse().ok()?;
+    (number.abs() <= 99_999 && number.to_string() == text).then_some(number)
+}
+
+/// First, last and step of a line of a table for m coefficients, its line feed included; None for 9.
+fn table_line(m: usize, line: &[u8]) -> Option<(i64, i64, i64)> {
+    let fields = line.strip_suffix(b"\n")?.split(|&byte| byte == b',');
+    let numbers = fields.map(written).collect::<Option<Vec<i64>>>()?;
+    let &[first, last, step] = &numbers[..] else {
+        return None;
+    };
+    let inside = 0 <= first && first <= last && last < m as i64 && 1 <= step && step <= LARGEST_STEP;
+    inside.then_some((first, last, step))
+}
+
+/// The step of each of m coefficients by a table, or the cause why it is turned away.
+pub fn steps(m: usize, table: &[u8]) -> Result<Vec<i64>, u32> {
+    let lines = table.split_inclusive(|&byte| byte == b'\n').map(|line| table_line(m, line));
+    let lines = lines.collect::<Option<Vec<_>>>().ok_or(9u32)?;
+    let mut steps = Vec::new();
+    for (first, last, step) in lines {
+        let uncovered = steps.len() as i64;
+        if first != uncovered {
+            return Err(if first > uncovered { 10 } else { 11 });
+        }
+        steps.resize(last as usize + 1, step);
+    }
+    if steps.len() == m {
+        Ok(steps)
+    } else {
+        Err(10)
+    }
+}
+
+/// The same where the route is offered at length n.
+fn steps_at(route: Route, n: usize, table: &[u8]) -> Result<Vec<i64>, u32> {
+    if offered(route, n) {
+        steps(n / 2, table)
+    } else {
+        Err(1)
+    }
+}
+
+/// rnd(x/step); doubled, both stay whole at an odd step.
+pub fn level(x: i32, step: i64) -> i32 {
+    rnd(2 * i128::from(x), 2 * i128::from(step)) as i32
+}
+
+/// What a level comes back as.
+pub fn back(level: i32, step: i64) -> i32 {
+    let limit = i64::from(COEFFICIENT_LIMIT);
+    (i64::from(level) * step).clamp(-limit, limit) as i32
+}
+
+fn backs(levels: &[i32], steps: &[i64]) -> Vec<i32> {
+    levels.iter().zip(steps).map(|(&level, &step)| back(level, step)).collect()
+}
+
+/// The distance told for the largest of these steps.
+pub fn distance(route: Route, steps: &[i64]) -> u32 {
+    let largest = steps.iter().max().expect("a table that is taken has a line");
+    let q = largest / 2 + if route == Route::Short { 16 } else { 0 };
+    ((q + 8) / 16) as u32
 }
 
 /// A line of 80 columns and a line feed for every six coefficients.

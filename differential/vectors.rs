@@ -65,6 +65,27 @@ fn holds(bank: &Bank, line: &str) -> bool {
             agrees(length, code, out, |b| bank.synthesise_recording(number(n), number(hops), &list(x), b))
         }
         ["page", n, hops, x, length, code, out] => agrees(length, code, out, |b| bank.page(number(n), number(hops), &list(x), b)),
+        _ => steps_hold(bank, &fields),
+    }
+}
+
+/// The same of the calls over step tables.
+fn steps_hold(bank: &Bank, fields: &[&str]) -> bool {
+    match *fields {
+        ["stream_step_levels", state, block, left, right, table, levels, length, code, out, after_state] => {
+            let before: Vec<i64> = list(state);
+            let mut now = before.clone();
+            let (shapes, table, levels) = ((number(left), number(right)), list(table), list(levels));
+            agrees(length, code, out, |b| bank.stream_step_levels(&mut now, number(block), shapes, &table, &levels, b))
+                && now == after(after_state, &before)
+        }
+        ["quantise", n, table, x, length, code, out] => agrees(length, code, out, |b| bank.quantise(number(n), &list(table), &list(x), b)),
+        ["dequantise", n, table, levels, length, code, out] => {
+            agrees(length, code, out, |b| bank.dequantise(number(n), &list(table), &list(levels), b))
+        }
+        ["told_distance", n, r, table, length, code, out] => {
+            agrees(length, code, out, |b| bank.told_distance(number(n), number(r), &list(table), b))
+        }
         _ => false,
     }
 }

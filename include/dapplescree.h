@@ -17,15 +17,37 @@
  * `left` and `right`, is W(i) = entry i of left's half, i below M, and W(i) = entry N - 1 - i of right's half from M on. A block does not reach
  * into the outer third of a hop whose joint is short: around a click, short joints keep what is done to coefficients nearer to it.
  *
+ * A step table says how coarsely coefficients are stored. It is bytes that a customer writes: a line is first coefficient, last coefficient and
+ * step, parted by commas and ended by a line feed; the lines ascend and cover 0 to M - 1, each place once. A number is an optional minus and 1 to
+ * 5 decimal digits, with no leading zero and no -0. Nothing else stands in a line, no blank, no plus sign and no carriage return, and no zero byte
+ * ends the table. At N = 36 this is one:
+ *
+ *   0,3,16
+ *   4,11,333
+ *   12,17,2500
+ *
+ * step(k) is the step of the line that covers coefficient k. Bytes that are no table for M coefficients, however many, are turned away with:
+ *
+ *    9  a line is not three such numbers and a line feed (an empty line is not, nor is a last line without its line feed), or its step is not 1
+ *       to 65536, or its first is below 0 or above its last, or its last is above M - 1
+ *   10  a place is not covered: the first line starts above 0, or a line starts more than 1 above the last of the line before it, or the last
+ *       line ends below M - 1, or there is no line at all
+ *   11  a line starts at or before the last of the line before it
+ *
+ * All lines are tested for 9 first, so a 9 in the last line goes before an 11 in the second. Then they are gone through from the first on, and
+ * the first that starts at a wrong place decides between 10 and 11; where none does, an end that is missing is 10. An empty table, which is 10,
+ * is a pointer that is not null, with length 0.
+ *
  * Each call returns a number:
  *
  *   0  taken
- *   1  n is not tabled, or is a length at which the short route, where it is asked for, is not offered
+ *   1  n is not tabled, or is a length at which the short route, where it is asked for, is not offered; or a route is above 1
  *   2  a length differs from the stated one, or hops is not 1 to 4095
  *   3  a coefficient is below -536870912 or above 536870912
  *   4  the state's entry 0 is not tabled, or one of its first M tail entries lies beyond plus or minus M * 2^55
  *   7  a block's number is not the one that the state expects
  *   8  a shape is above 1, or a block's left shape is not the one that the state expects
+ *   9, 10, 11  a step table is turned away, as above
  *
  * Under each call stand its numbers in the order in which they are tested; the first cause that holds is returned. Every check is made before
  * anything is written: where the returned number is not 0, every buffer and the state hold what they held. Where it is 0, the buffer that the
@@ -33,14 +55,14 @@
  * its arguments, so calls on different buffers may run at the same time.
  *
  * No call allocates. What a call takes of the stack is measured (bench/run stack) and not proved: below 6 KiB for n up to 72, below 7 KiB for
- * n = 108 and below 18 KiB for n = 216.
+ * n = 108 and below 18 KiB for n = 216; of a step on levels 1 KiB more.
  *
  * These are promises for every value of every argument, under what C cannot check: each pointer is not null, also where its length is 0, is
  * aligned, and points to as many entries as the length that follows it says; the buffers of one call do not overlap; nothing else writes to
  * them, or reads what is being written, until the call returns. A size is without a sign: a negative number handed in for one arrives as a
- * huge size, and is refused as such. A block's number and a shape have 32 bits: of a wider one its low 32 bits arrive. The numbers returned, and
- * what each buffer then holds, are the contracts of crates/c_face/src/lib.rt, which are proved; what is said of chains of states, of the
- * distance of returned sound and of reading a page are theorems of crates/demands over the same definitions.
+ * huge size, and is refused as such. A block's number, a shape and a route have 32 bits: of a wider one its low 32 bits arrive. The numbers
+ * returned, and what each buffer then holds, are the contracts of crates/c_face/src/lib.rt, which are proved; what is said of chains of states, of
+ * levels there and back, of the distance of returned sound and of reading a page are theorems of crates/demands over the same definitions.
  */
 #ifndef DAPPLESCREE_H
 #define DAPPLESCREE_H
@@ -102,11 +124,11 @@ uint32_t dapplescree_stream_fresh(size_t n, int64_t *state, size_t state_length)
  *   0  hop[i] is rnd((tail(i) + V(i)) / (N * 2^30)), clamped to -32768 .. 32767, i below M, with V(i) = W(i) * U(i) and
  *      U(i) = rnd((the sum over k of coefficients[k] * K(i,k)) / 2^26); the expected number then is one more, the expected shape is `right`, and
  *      tail(i) is V(M + i), i below M; state[0] and the tail's storage from M on are kept
- * A state that was made by dapplescree_stream_fresh and changed by this call alone is never refused with 4, and the number that it expects is how
- * many steps it has taken: so blocks are taken as 0, 1, 2 .. without a gap, and one that is early, late or repeated is 7. Block 4294967295 is
- * the last that a stream takes: after it no number is expected, 0 neither, and every block is 7. The shape that it expects is the right shape of
- * the last block taken, 0 before the first: so the two blocks of a joint have the same shape there, and a running stream passes from one shape
- * to the other at any joint.
+ * A state that was made by dapplescree_stream_fresh and changed by this call and dapplescree_stream_step_levels alone is never refused with 4, and
+ * the number that it expects is how many steps it has taken: so blocks are taken as 0, 1, 2 .. without a gap, and one that is early, late or
+ * repeated is 7. Block 4294967295 is the last that a stream takes: after it no number is expected, 0 neither, and every block is 7. The shape that
+ * it expects is the right shape of the last block taken, 0 before the first: so the two blocks of a joint have the same shape there, and a running
+ * stream passes from one shape to the other at any joint.
  *
  * The first hop of a fresh stream is the run-in. Blocks may be offered to a fresh stream in whatever order, and however often. Where each one
  * that is taken under number b is block b of one recording, as analysis with the shapes that it is offered with gave it or with each coefficient
@@ -162,6 +184,58 @@ uint32_t dapplescree_synthesise_recording(size_t n, size_t hops, const int32_t *
  */
 uint32_t dapplescree_page(size_t n, size_t hops, const int32_t *coefficients, size_t coefficients_length, uint8_t *page,
     size_t page_length);
+
+/* The coefficients of one block to levels, by a step table.
+ *   1  n is not tabled
+ *   9, 10, 11  the table is turned away
+ *   2  coefficients_length is not M, or levels_length is not M
+ *   3  a coefficient is beyond its limit
+ *   0  levels[k] is rnd(coefficients[k] / step(k)), k below M: the nearest whole number, a half going away from zero, by odd steps too
+ */
+uint32_t dapplescree_quantise(size_t n, const uint8_t *table, size_t table_length, const int32_t *coefficients, size_t coefficients_length,
+    int32_t *levels, size_t levels_length);
+
+/* The levels of one block back to coefficients. Every int32_t is a level: none is refused.
+ *   1  n is not tabled
+ *   9, 10, 11  the table is turned away
+ *   2  levels_length is not M, or coefficients_length is not M
+ *   0  coefficients[k] is levels[k] * step(k), clipped to -536870912 .. 536870912, k below M
+ * So what comes back is never refused with 3. Through dapplescree_quantise and this call by the same table, coefficient k moves by at most
+ * step(k) / 2, rounded down. By step 3 the limit 536870912 has the level 178956971, and comes back as itself: the clip takes away the 1 that
+ * 178956971 * 3 is beyond it.
+ */
+uint32_t dapplescree_dequantise(size_t n, const uint8_t *table, size_t table_length, const int32_t *levels, size_t levels_length,
+    int32_t *coefficients, size_t coefficients_length);
+
+/* The sample distance that follows from a step table: how far returned sound may be from the recording where its coefficients went through levels
+ * by this table. route is 0 for blocks analysed directly and 1 for the short route. distance is an array of one entry.
+ *   1  n is not tabled, or route is above 1, or route is 1 and n is not 12, 24, 36 or 72
+ *   9, 10, 11  the table is turned away
+ *   2  distance_length is not 1
+ *   0  distance[0] is (Q + 8) / 16, rounded down, where Q is half the largest step, rounded down, by route 0 and 16 more than that by route 1
+ * By route 0 it is 0 up to a largest step of 15, and 2048 at 65536; by route 1 it is 1 at least, and 2049 at 65536.
+ *
+ * The told distance is kept. Each block of a recording is brought through dapplescree_quantise and back by one table, its own or a common one.
+ * What a fresh stream takes under number b is block b of that recording, so brought; the step that takes it, b at least 1, returns the recording's
+ * hop b - 1, each sample within the distance told for the coarser table of blocks b - 1 and b, the one with the larger largest step, by route 1
+ * where one of the two was analysed by the short route, else by route 0. All else is as under dapplescree_stream_step: blocks in whatever order
+ * and however often, refused ones in between, any mixture of shapes. By dapplescree_synthesise_recording, at long joints, it holds for every
+ * sample and the two blocks that cover it.
+ */
+uint32_t dapplescree_told_distance(size_t n, uint32_t route, const uint8_t *table, size_t table_length, uint32_t *distance,
+    size_t distance_length);
+
+/* One synthesis step from levels, which is what recorders store. M is state[0] / 2, and the table is one for M coefficients.
+ *   2  state_length is not DAPPLESCREE_STATE
+ *   4, 7, 8  as under dapplescree_stream_step
+ *   9, 10, 11  the table is turned away
+ *   2  levels_length is not M, or hop_length is not M
+ *   0  hop and state are as dapplescree_stream_step leaves them, called with the coefficients that dapplescree_dequantise gives for the levels
+ * Every int32_t is a level, so there is no 3. Steps by this call and by dapplescree_stream_step may follow one another on one state: all that is
+ * said there of chains of states holds of both. A refused step leaves the state as it was, also where the table is the cause.
+ */
+uint32_t dapplescree_stream_step_levels(int64_t *state, size_t state_length, uint32_t number, uint32_t left, uint32_t right,
+    const uint8_t *table, size_t table_length, const int32_t *levels, size_t levels_length, int16_t *hop, size_t hop_length);
 
 #ifdef __cplusplus
 }

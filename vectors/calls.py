@@ -5,6 +5,7 @@ import sys
 from itertools import product
 
 import bank
+import steps
 from bank import COEFFICIENT_LIMIT, HOPS, LENGTHS, ROUTES, SHAPES, SHORT_LENGTHS, STATE, STORAGE, page_length, tail_limit
 
 rounds = int(sys.argv[1]) if len(sys.argv) > 1 else 25
@@ -99,6 +100,59 @@ def stepped(before, M):
     return answer[2]
 
 
+def table(M):
+    """A step table that is taken, or with a line left out, repeated or moved, or with a byte damaged, or without its last line feed."""
+    cuts = sorted(rng.sample(range(1, M), rng.choice([0, 1, min(4, M - 1), M - 1])))
+    starts, ends = [0, *cuts], [*cuts, M]
+    lines = [b"%d,%d,%d\n" % (a, b - 1, rng.choice([1, 2, 3, 16, 999, rng.randint(1, 65536), 65535, 65536])) for a, b in zip(starts, ends)]
+    case, at = rng.randrange(14), rng.randrange(len(lines))
+    if case == 0:
+        lines.pop(at)
+    if case == 1:
+        lines.insert(at, lines[at])
+    if case == 2:
+        rng.shuffle(lines)
+    if case == 3:
+        fields = [rng.choice([z, z + 1, z - 1, M, 0, -1, 65537]) for z in (starts[at], ends[at] - 1, 7)]
+        lines[at] = b"%d,%d,%d\n" % tuple(fields)
+    data = b"".join(lines)
+    place, byte = rng.randrange(len(data) + 1), bytes([rng.choice([*b"0123456789,-\n", 32, 13, 43, 0, rng.randrange(256)])])
+    if case == 4:
+        return data[:place] + byte + data[place:]
+    if case == 5:
+        return data[:place] + byte + data[place + 1 :]
+    if case == 6:
+        return data[:place] + data[place + 1 :]
+    return data[:-1] if case == 7 else data
+
+
+def near_levels(count):
+    ends = [-(2**31), 2**31 - 1, -1, 0, 1]
+    return [rng.choice([*ends, rng.randint(-(2**31), 2**31 - 1), rng.randint(-40000, 40000)]) for _ in range(count)]
+
+
+def step_tables(N, n):
+    """Prints the calls over step tables."""
+    M = N // 2
+    data, x, length = table(M), coefficients(near(M)), near(M)
+    if rng.randrange(6) == 0:
+        spoil(x)
+    line("quantise", n, data, x, length, *steps.quantise(n, data, x, length))
+    data, levels, length = table(M), near_levels(near(M)), near(M)
+    line("dequantise", n, data, levels, length, *steps.dequantise(n, data, levels, length))
+    data, route, length = table(M), rng.choice([0, 0, 0, 1, 1, 1, 2, LAST]), near(1)
+    line("told_distance", n, route, data, length, *steps.told_distance(n, route, data, length))
+
+
+def stepped_levels(before, M):
+    """Prints a step on levels, and gives the state to go on with."""
+    b, data, levels, length = near_number(before), table(M), near_levels(near(M)), near(M)
+    shapes = near_shape(before[2] % 2**32), near_shape(rng.choice(SHAPES))
+    answer = steps.stream_step_levels(before, b, *shapes, data, levels, length)
+    line("stream_step_levels", before, b, *shapes, data, levels, length, *answer)
+    return answer[2]
+
+
 for t in range(-1200, 3000):
     line("C", t, bank.C(t))
 for N in LENGTHS:
@@ -147,3 +201,6 @@ for _ in range(rounds):
         if rng.randrange(6) == 0:
             spoil(x)
         line("page", n, named, x, length, *bank.page(n, named, x, length))
+        for _ in range(6):
+            step_tables(N, n)
+            stepped_levels(stepped_levels(state(N), M), M)

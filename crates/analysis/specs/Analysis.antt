@@ -22,3 +22,8 @@ spectrum Short N y = R.short N y
 -- the M coefficients of a block x of N samples, by a route, with joints of the shapes left and right
 unfoldable pub coefficients : Route → (N left right : ℕ) → List ℤ → List ℤ
 coefficients route N left right x = spectrum route N (y N (rising left N) (falling right N) x)
+
+-- how far a route's coefficients may lie from the definition's, in units
+unfoldable pub unitsOf : Route → ℕ
+unitsOf Direct = 0
+unitsOf Short = R.units

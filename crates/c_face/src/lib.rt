@@ -5,6 +5,7 @@ ghost use Rattle.analysis.specs.declared.Route.the-variants.{Direct, Short};
 ghost use Rattle.block_calls.specs.Analysis.{analyseCode, analyseOut};
 ghost use Rattle.recording_calls.specs.Recordings.{recordedCode, recordedOut, playedCode, playedOut};
 ghost use Rattle.page.specs.Page.{pageCode, pageOut};
+ghost use Rattle.level_calls.specs.LevelCalls.{quantiseCode, quantiseOut, dequantiseCode, dequantiseOut, tellNumber, tellNumberOut, stateCode, stateAfter, stateOut};
 ghost use Rattle.state_calls.specs.States.{freshCode, freshState, stepCode, stepState, stepOut};
 use analysis::Route;
 
@@ -118,4 +119,64 @@ pub extern "C" fn dapplescree_page(
     ensures { λ _. ⌜ now (bytes .exit) ≡ pageOut n hops (now (coefficients .entry)) (now (bytes .entry)) ⌝ }
 {
     page::page(n, hops, coefficients, bytes)
+}
+
+// The levels of a block's coefficients by a step table: `filter_bank::quantise`.
+#[no_mangle]
+pub extern "C" fn dapplescree_quantise(
+    n: usize,
+    table: &[u8],
+    coefficients: &[i32],
+    levels: &mut [i32],
+) -> u32
+    ensures { λ r. ⌜ r ≡ quantiseCode n (now (table .entry)) (now (coefficients .entry)) (now (levels .entry)) ⌝ }
+    ensures { λ _. ⌜ now (levels .exit) ≡ quantiseOut n (now (table .entry)) (now (coefficients .entry)) (now (levels .entry)) ⌝ }
+{
+    filter_bank::quantise(n, table, coefficients, levels)
+}
+
+// The coefficients that levels come back as: `filter_bank::dequantise`.
+#[no_mangle]
+pub extern "C" fn dapplescree_dequantise(
+    n: usize,
+    table: &[u8],
+    levels: &[i32],
+    coefficients: &mut [i32],
+) -> u32
+    ensures { λ r. ⌜ r ≡ dequantiseCode n (now (table .entry)) (now (levels .entry)) (now (coefficients .entry)) ⌝ }
+    ensures { λ _. ⌜ now (coefficients .exit) ≡ dequantiseOut n (now (table .entry)) (now (levels .entry)) (now (coefficients .entry)) ⌝ }
+{
+    filter_bank::dequantise(n, table, levels, coefficients)
+}
+
+// The distance that a step table tells, by a route's number: `filter_bank::tell`.
+#[no_mangle]
+pub extern "C" fn dapplescree_told_distance(
+    n: usize,
+    route: u32,
+    table: &[u8],
+    distance: &mut [u32],
+) -> u32
+    ensures { λ r. ⌜ r ≡ tellNumber route n (now (table .entry)) (now (distance .entry)) ⌝ }
+    ensures { λ _. ⌜ now (distance .exit) ≡ tellNumberOut route n (now (table .entry)) (now (distance .entry)) ⌝ }
+{
+    filter_bank::tell(route, n, table, distance)
+}
+
+// One step on a block's levels, in a state: `filter_bank::step_levels_in_place`.
+#[no_mangle]
+pub extern "C" fn dapplescree_stream_step_levels(
+    state: &mut [i64],
+    number: u32,
+    left: u32,
+    right: u32,
+    table: &[u8],
+    levels: &[i32],
+    hop: &mut [i16],
+) -> u32
+    ensures { λ r. ⌜ r ≡ stateCode (now (state .entry)) number left right (now (table .entry)) (now (levels .entry)) (now (hop .entry)) ⌝ }
+    ensures { λ _. ⌜ now (state .exit) ≡ stateAfter (now (state .entry)) number left right (now (table .entry)) (now (levels .entry)) (now (hop .entry)) ⌝ }
+    ensures { λ _. ⌜ now (hop .exit) ≡ stateOut (now (state .entry)) number left right (now (table .entry)) (now (levels .entry)) (now (hop .entry)) ⌝ }
+{
+    filter_bank::step_levels_in_place(state, number, left, right, table, levels, hop)
 }

@@ -11,7 +11,7 @@ use lib.IntN.{ℤ, pos, negℤ, natAbs}
 use lib.Signed.{leZ, leZ-yes}
 use Rattle.arithmetic.specs.Lists.{at, all, Small}
 use Rattle.arithmetic.specs.OrderLaws.{abs-le}
-use Rattle.arithmetic.specs.TestLaws.{all-at, both-left, both-right, is-T}
+use Rattle.arithmetic.specs.TestLaws.{all-at, all-make, both-left, both-right, both-make, is-T, is-true}
 use Rattle.cosine.specs.Kernels.{tabled}
 use Rattle.cosine.specs.LengthLaws.{length-of}
 use Rattle.stream.specs.Synthesis.{storage}
@@ -25,9 +25,19 @@ within-abs z b t =
     let hi = both-right (leZ (negℤ (pos b)) z) (leZ z (pos b)) t in
     abs-le z b .1 (leZ-yes hi, leZ-yes lo)
 
+pub abs-within : (z : ℤ) (b : ℕ) → natAbs z ≤ b → T (within z b)
+unfolding within
+abs-within z b h =
+    let p = abs-le z b .0 h in
+    both-make (leZ (negℤ (pos b)) z) (leZ z (pos b)) (p .1 .le) (p .0 .le)
+
 pub range-small : (x : List ℤ) (m : ℕ) → length x ≡ m → inRange m x ≡ true → Small x (2 ^ 29)
 unfolding inRange
 range-small x m l e = record { small = λ k p. within-abs (at x k) coefficientLimit (all-at m (λ k. within (at x k) coefficientLimit) (is-T e) k (omega (arith, l))) }
+
+pub small-range : (x : List ℤ) (m : ℕ) → length x ≡ m → Small x (2 ^ 29) → inRange m x ≡ true
+unfolding inRange
+small-range x m l s = is-true (all-make m (λ k. within (at x k) coefficientLimit) (λ k p. abs-within (at x k) coefficientLimit (s .small k (omega (arith, l)))))
 
 pub counted-some : (H : ℕ) → counted H ≡ true → 1 ≤ H
 unfolding counted

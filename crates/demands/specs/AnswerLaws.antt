@@ -6,14 +6,14 @@ use mathlib.Core.List.{List, _∷_}
 use Prim.Native.Nat.{ℕ, _+_, _*_, _/_, _^_, _<_}
 use native.Mathlib.Omega.{arith}
 use native.Mathlib.Decide.{ℕ-discrete}
-use lib.Dec.{T, eqb, leb, leb→le}
+use lib.Dec.{eqb}
 use lib.ListN.{length}
-use lib.IntN.{ℤ, pos, natAbs}
-use lib.Signed.{_<ℤ_, ltZ}
-use borrow.Author.Tests.{le-leb, eq-eqb, ne-eqb}
-use Rattle.arithmetic.specs.Lists.{at, every}
-use Rattle.arithmetic.specs.TestLaws.{cond-yes, cond-no, all-make, both-left, both-right, is-true, is-false}
-use Rattle.cosine.specs.Kernels.{lengths, tabled}
+use lib.IntN.{ℤ, pos}
+use lib.Signed.{_<ℤ_}
+use borrow.Author.Tests.{eq-eqb, ne-eqb}
+use Rattle.arithmetic.specs.Lists.{at}
+use Rattle.arithmetic.specs.TestLaws.{cond-yes, cond-no, is-true, is-false}
+use Rattle.cosine.specs.Kernels.{tabled}
 use Rattle.stream.specs.declared.Stream.{Stream}
 use Rattle.stream.specs.Synthesis as S
 use Rattle.stream.specs.Steps.{next, hop}
@@ -25,46 +25,19 @@ use Rattle.checks.specs.Causes.{Cause, _unless_, First}
 use Rattle.checks.specs.Causes.First.{none, stop, pass}
 use Rattle.checks.specs.CauseLaws.{first-is, same, differs, beside}
 use Rattle.block_calls.specs.Analysis.{analyseCauses, analyseCode, analyseOut}
-use Rattle.checks.specs.Limits.{within, tailLimit, coefficientLimit, inRange, hopLimit, counted, areShapes}
+use Rattle.checks.specs.Limits.{counted}
 use Rattle.stream_calls.specs.Streams.{fresh, sound, fits, stepCauses, stepCode, step}
-use Rattle.checks.specs.LimitLaws.{range-small, counted-some, counted-most}
-use Rattle.stream_calls.specs.StreamLaws.{sound-tabled, sound-bounded}
 use Rattle.recording_calls.specs.Recordings.{recordedCauses, recordedCode, recordedOut, playedCauses, playedCode, playedOut, shaped, innerOf}
 use Rattle.page.specs.Page.{pageOf, pageCauses, pageCode, pageOut}
 use Rattle.state_calls.specs.States as F
 use Rattle.state_calls.specs.StateLaws.{fresh-holds, fresh-long, same-code, same-out, same-stream, same-long}
 use Rattle.demands.specs.ListingAnswerLaws.{listing-answers}
-use Rattle.demands.specs.StepLaws.{abs-within, sound-of, code-other, refused-stream, refused-buffer, last-number}
-use Rattle.demands.specs.Demands.{Tabled, Counted, InRange, SoundTail, Shapes, Fitting, AnalyseAnswers, FreshAnswers, StepAnswers, RecordedAnswers, PlayedAnswers, InnerAnswers, PageAnswers, StateFreshAnswers, StateStepAnswers, Demand-1}
-
--- ---- the causes as tests
-module _ (H : ℕ) where
-  counts : Counted H → counted H ≡ true
-  unfolding counted
-  counts c = rw (le-leb 1 H (c .some), le-leb H hopLimit (c .most))
-
-  counts-not : ¬ Counted H → counted H ≡ false
-  counts-not n = is-false (λ t. n (record { some = counted-some H (is-true t); most = counted-most H (is-true t) }))
-
-module _ (x : List ℤ) (m : ℕ) (l : length x ≡ m) where
-  ranges : InRange x → inRange m x ≡ true
-  unfolding inRange
-  ranges r = is-true (all-make m (λ k. within (at x k) coefficientLimit) (λ k p. abs-within (at x k) coefficientLimit (r .each k (rw l p))))
-
-  ranges-not : ¬ InRange x → inRange m x ≡ false
-  ranges-not n = is-false (λ t. n (record { each = λ k p. range-small x m l (is-true t) .small k p }))
-
-module _ (s : Stream) where
-  sounds : Tabled (s .n) → SoundTail s → sound s ≡ true
-  unfolding tailLimit
-  sounds t b = is-true (sound-of s t (b .each))
-
-  sounds-not-n : ¬ Tabled (s .n) → sound s ≡ false
-  sounds-not-n n = is-false (λ t. n (sound-tabled s (is-true t)))
-
-  sounds-not-tail : ¬ SoundTail s → sound s ≡ false
-  unfolding tailLimit
-  sounds-not-tail n = is-false (λ t. n (record { each = sound-bounded s (is-true t) .within }))
+use Rattle.demands.specs.TableAnswerLaws.{table-answers}
+use Rattle.demands.specs.LevelAnswerLaws.{quantise-answers, dequantise-answers, told-answers, tell-answers, report-answers, step-levels-answers, state-levels-answers, last-number}
+use Rattle.demands.specs.StepLaws.{code-other, refused-stream, refused-buffer}
+use Rattle.demands.specs.CauseTestLaws.{counts, counts-not, ranges, ranges-not, sounds, sounds-not-n, sounds-not-tail, shapes-true, shapes-false, fits-true, fits-not, fits-other, fits-forged, negative, no-length-0, shape-negative, shape-large}
+use Rattle.demands.specs.Answers.{Tabled, SoundTail, Fitting, AnalyseAnswers, FreshAnswers, StepAnswers, RecordedAnswers, PlayedAnswers, InnerAnswers, PageAnswers, StateFreshAnswers, StateStepAnswers}
+use Rattle.demands.specs.Demands.{Demand-1}
 
 -- ---- a buffer's shape, whichever of its tests fails
 shaped-counted : (a b c : Bool) → b ≡ false → cond a (cond b c false) false ≡ false
@@ -77,18 +50,6 @@ shaped-size true false c q = refl
 shaped-size false b c q = refl
 
 -- ---- the calls
--- the shapes as tests
-shapes-true : (l r : ℕ) → Shapes l r → areShapes l r ≡ true
-unfolding areShapes
-shapes-true l r h = rw (le-leb l 1 (h .left-is), le-leb r 1 (h .right-is))
-
-shapes-of : (l r : ℕ) → T (areShapes l r) → Shapes l r
-unfolding areShapes
-shapes-of l r t = record { left-is = leb→le l 1 (both-left (leb l 1) (leb r 1) t); right-is = leb→le r 1 (both-right (leb l 1) (leb r 1) t) }
-
-shapes-false : (l r : ℕ) → ¬ Shapes l r → areShapes l r ≡ false
-shapes-false l r n = is-false (λ (t : T (areShapes l r)). n (shapes-of l r t))
-
 analyse-answers : (route : Route) (N l r : ℕ) (x out : List ℤ) → AnalyseAnswers route N l r x out
 unfolding analyseCauses analyseCode analyseOut
 analyse-answers route N l r x out =
@@ -108,32 +69,6 @@ fresh-answers N =
     let yes : Made = record { code = 0; stream = S.fresh N } in
     let no : Made = record { code = 1; stream = S.fresh 0 } in
     record { one = λ n. cond-no (tabled N) yes no n; taken = λ t. cond-yes (tabled N) yes no t }
-
--- the joint between a stream and a block, as a test
-module _ (s : Stream) (l r : ℕ) where
-  fits-true : Shapes l r → l ≡ s .shape → fits l r (s .shape) ≡ true
-  unfolding fits
-  fits-true h e = rw (shapes-true l r h, eq-eqb l (s .shape) e)
-
-  fits-not : ¬ Shapes l r → fits l r (s .shape) ≡ false
-  unfolding fits
-  fits-not n = rw (shapes-false l r n)
-
-  fits-other : l ≢ s .shape → fits l r (s .shape) ≡ false
-  unfolding fits
-  fits-other n = rw (ne-eqb l (s .shape) n) (go (areShapes l r))
-    where
-      go : (b : Bool) → cond b false false ≡ false
-      go true = refl
-      go false = refl
-
-  -- a shape above 1 is no left shape, or is one that is refused itself
-  fits-forged : 1 < s .shape → fits l r (s .shape) ≡ false
-  fits-forged h = go (ℕ-discrete l (s .shape))
-    where
-      go : Dec (l ≡ s .shape) → fits l r (s .shape) ≡ false
-      go (yes e) = fits-not (λ (q : Shapes l r). omega (arith, q .left-is, e, h))
-      go (no n) = fits-other n
 
 step-answers : (s : Stream) (number l r : ℕ) (x out : List ℤ) → StepAnswers s number l r x out
 unfolding stepCauses stepCode step
@@ -231,28 +166,6 @@ state-fresh-answers N state =
       kept = λ r. code-other (F.freshCode N state) (F.stateOf (S.fresh N)) state r;
     }
 
--- what an entry below zero stands for
-negative : (z : ℤ) (other : ℕ) → z <ℤ pos 0 → F.numberIn z other ≡ other
-unfolding F.numberIn
-negative z other h = cond-yes (ltZ z (pos 0)) other (natAbs z) (h .lt)
-
-no-length : ¬ Tabled 0
-unfolding tabled every lengths
-no-length t = t
-
--- a shape below 0 or above 1 stands as 2
-shape-negative : (z : ℤ) → z <ℤ pos 0 → F.shapeIn z ≡ 2
-unfolding F.shapeIn
-shape-negative z h = cond-yes (ltZ z (pos 0)) 2 (cond (ltZ (pos 1) z) 2 (natAbs z)) (h .lt)
-
-shape-large : (z : ℤ) → pos 1 <ℤ z → F.shapeIn z ≡ 2
-unfolding F.shapeIn
-shape-large z h = let e : ltZ (pos 1) z ≡ true = is-true (h .lt) in rw e (go (ltZ z (pos 0)))
-  where
-    go : (b : Bool) → _≡_ {A = ℕ} (cond b 2 2) 2
-    go true = refl
-    go false = refl
-
 module _ (state : List ℤ) (number l r : ℕ) (x out : List ℤ) where
   kept-step : F.stepCode state number l r x out ≢ 0 → F.stepState state number l r x out ≡ state
   unfolding F.stepState
@@ -276,7 +189,7 @@ module _ (state : List ℤ) (number l r : ℕ) (x out : List ℤ) where
 
     negative-4 : at state 0 <ℤ pos 0 → F.stepCode state number l r x out ≡ 4
     unfolding F.streamIn
-    negative-4 h = same-code state number l r x out e ∙ by-value .four-n (rw (negative (at state 0) 0 h) no-length)
+    negative-4 h = same-code state number l r x out e ∙ by-value .four-n (rw (negative (at state 0) 0 h) no-length-0)
 
     module _ (t : Tabled (F.streamIn state .n)) (h : SoundTail (F.streamIn state)) where
       negative-7 : number < 2 ^ 32 → at state 1 <ℤ pos 0 → F.stepCode state number l r x out ≡ 7
@@ -315,4 +228,12 @@ demand-1 = record {
   state-made = state-fresh-answers;
   state-stepped = state-step-answers;
   listed = listing-answers;
+  ruled = table-answers;
+  quantised = quantise-answers;
+  dequantised = dequantise-answers;
+  told-first = told-answers;
+  told-in = tell-answers;
+  reported = report-answers;
+  stepped-levels = step-levels-answers;
+  state-stepped-levels = state-levels-answers;
 }

@@ -7,7 +7,7 @@ use native.Mathlib.Omega.{arith}
 use lib.Dec.{T}
 use lib.ListN.{length}
 use lib.IntN.{ℤ, pos, natAbs, _-ℤ_, _+ℤ_}
-use Rattle.arithmetic.specs.Lists.{at}
+use Rattle.arithmetic.specs.Lists.{at, joined}
 use Rattle.arithmetic.specs.ListLaws.{part-at}
 use Rattle.arithmetic.specs.Rounding.{rnd, clamp, Sample}
 use Rattle.cosine.specs.Kernels.{tabled, rising, falling}
@@ -23,58 +23,70 @@ use Rattle.analysis.specs.AnalysisLaws.{coefficients-length}
 use Rattle.recording.specs.RecordingLaws.{part-length-is}
 use Rattle.block_calls.specs.AnalysisLaws.{analysed-offered, analyse-taken}
 use Rattle.arithmetic.specs.TestLaws.{is-T}
-use Rattle.recording_calls.specs.Recordings.{playedCode, playedOut, innerOf}
+use Rattle.recording_calls.specs.Recordings.{recordedCode, recordedOut, playedCode, playedOut, innerOf}
 use Rattle.checks.specs.LimitLaws.{counted-some}
 use Rattle.recording_calls.specs.RecordingLaws.{Recorded, recorded-facts, recorded-taken, Played, played-facts, played-taken, shaped-of}
 use Rattle.demands.specs.Steps.{Recording, Brought, provedChange}
-use Rattle.demands.specs.RecordingLaws.{hop-of, back-near, back-same, near-asked}
-use Rattle.demands.specs.Recordings.{ByOneCall, BlockByBlock, Back, SharperBack}
+use Rattle.demands.specs.RecordingLaws.{hop-of, back-near, back-same, near-asked, restored}
+use Rattle.demands.specs.Recordings.{ByOneCall, BlockByBlock, Back, BackOneQ, SharperBack}
 
-module _ (N H Q : ℕ) (routes : ℕ → Route) (x X out : List ℤ) (rec : Recording N H x) (played : playedCode N H X out ≡ 0)
+-- the M coefficients of block b, of those of a recording
+pub part-entry : (N H : ℕ) (X : List ℤ) → length X ≡ (H + 1) * (N / 2) → (b : ℕ) → b ≤ H → (k : ℕ) → k < N / 2 → at (part N X b) k ≡ at X (b * (N / 2) + k)
+unfolding part
+part-entry N H X long b p k q = part-at X (b * (N / 2)) (N / 2) (N / 2) (omega arith) (omega (arith, long, within b (H + 1) (N / 2) (omega arith))) k q
+
+-- as many as an analysis leaves
+pub recorded-long : (route : Route) (N H : ℕ) (x out : List ℤ) → recordedCode route N H x out ≡ 0 → length (recordedOut route N H x out) ≡ (H + 1) * (N / 2)
+unfolding analysis
+recorded-long route N H x out e =
+    ap length (sym (recorded-taken route N H x out e .1))
+    ∙ joined-length (λ b. coefficients route N 0 0 (block N x b)) (N / 2) (H + 1) (λ b p. coefficients-length route N 0 0 (block N x b)) (H + 1) (omega arith)
+
+-- ---- what a synthesis left: the samples of hop h are what the tail of block h and block h + 1 give
+module _ (N H : ℕ) (X out : List ℤ) (played : playedCode N H X out ≡ 0) where
+  -- the coefficients of block b, and hop h as it comes back
+  abbrev blocks : ℕ → List ℤ
+  blocks = part N X
+
+  abbrev hops : ℕ → List ℤ
+  hops h = returned N blocks (suc h)
+
+  left-is : playedOut N H X out ≡ joined H hops
+  unfolding synthesis
+  left-is = sym (played-taken N H X out played .1)
+
+  left-long : length (playedOut N H X out) ≡ H * (N / 2)
+  left-long = ap length left-is ∙ joined-length hops (N / 2) H (λ h p. returned-long N blocks (suc h)) H (omega arith)
+
+  left-at : (h n : ℕ) → h < H → n < N / 2 →
+      at (playedOut N H X out) (h * (N / 2) + n) ≡ clamp (rnd (V′ N (rising 0 N) (falling 0 N) (blocks h) (N / 2 + n) +ℤ V′ N (rising 0 N) (falling 0 N) (blocks (suc h)) n) (N * 2 ^ 30))
+  left-at h n p q =
+      ap (λ (l : List ℤ). at l (h * (N / 2) + n)) left-is
+      ∙ joined-at hops (N / 2) H (λ h p. returned-long N blocks (suc h)) (pos 0) H h n (omega arith) p q
+      ∙ returned-at N blocks h n q
+
+module _ (N H : ℕ) (Q : ℕ → ℕ) (routes : ℕ → Route) (x X out : List ℤ) (rec : Recording N H x) (played : playedCode N H X out ≡ 0)
     (offers : (b : ℕ) → b ≤ H → T (offered (routes b) N))
-    (changed : (b : ℕ) → b ≤ H → (k : ℕ) → k < N / 2 → natAbs (at X (b * (N / 2) + k) -ℤ at (coefficients (routes b) N 0 0 (block N x b)) k) ≤ Q) where
+    (changed : (b : ℕ) → b ≤ H → (k : ℕ) → k < N / 2 → natAbs (at X (b * (N / 2) + k) -ℤ at (coefficients (routes b) N 0 0 (block N x b)) k) ≤ Q b) where
   facts : Played N H X out
   facts = played-facts N H X out played
 
   tab : T (tabled N)
   tab = facts .length-is
 
-  left : List ℤ
+  abbrev left : List ℤ
   left = playedOut N H X out
 
-  left-is : left ≡ synthesis N H X
-  unfolding left
-  left-is = sym (played-taken N H X out played .1)
+  abbrev c : ℕ → List ℤ
+  c = part N X
 
-  -- hop h as it comes back
-  abbrev hops : ℕ → List ℤ
-  hops h = returned N (part N X) (suc h)
-
-  left-long : length left ≡ H * (N / 2)
-  unfolding synthesis
-  left-long = ap length left-is ∙ joined-length hops (N / 2) H (λ h p. returned-long N (part N X) (suc h)) H (omega arith)
-
-  -- the M coefficients of block b
-  part-entry : (b : ℕ) → b ≤ H → (k : ℕ) → k < N / 2 → at (part N X b) k ≡ at X (b * (N / 2) + k)
-  unfolding part
-  part-entry b p k q = part-at X (b * (N / 2)) (N / 2) (N / 2) (omega arith) (omega (arith, facts .long, within b (H + 1) (N / 2) (omega arith))) k q
-
-  brought : (b : ℕ) → b ≤ H → Brought N H Q routes x b 0 0 (part N X b)
+  brought : (b : ℕ) → b ≤ H → Brought N H Q routes x b 0 0 (c b)
   brought b p = record {
     exists = p;
     offers = offers b p;
     long = part-length-is N tab (H + 1) X (facts .long) (facts .range) b (omega arith);
-    near = λ k q. rw (part-entry b p k q) (changed b p k q);
+    near = λ k q. rw (part-entry N H X (facts .long) b p k q) (changed b p k q);
   }
-
-  -- the samples of hop h: what the tail of block h and block h + 1 give
-  left-at : (h n : ℕ) → h < H → n < N / 2 →
-      at left (h * (N / 2) + n) ≡ clamp (rnd (V′ N (rising 0 N) (falling 0 N) (part N X h) (N / 2 + n) +ℤ V′ N (rising 0 N) (falling 0 N) (part N X (suc h)) n) (N * 2 ^ 30))
-  unfolding synthesis
-  left-at h n p q =
-      ap (λ (l : List ℤ). at l (h * (N / 2) + n)) left-is
-      ∙ joined-at hops (N / 2) H (λ h p. returned-long N (part N X) (suc h)) (pos 0) H h n (omega arith) p q
-      ∙ returned-at N (part N X) h n q
 
   -- ---- sample i: hop h, place n
   module _ (i : ℕ) (p : i < H * (N / 2)) where
@@ -87,33 +99,37 @@ module _ (N H Q : ℕ) (routes : ℕ → Route) (x X out : List ℤ) (rec : Reco
     lies : Place (N / 2) H i
     lies = hop-of N tab H i p
 
-    near-at : natAbs (at left i -ℤ at x i) ≤ (3 * provedChange Q (routes h) (routes (suc h)) + 36) / 64
+    near-at : natAbs (at left i -ℤ at x i) ≤ (3 * provedChange (Q h) (Q (suc h)) (routes h) (routes (suc h)) + 36) / 64
     near-at =
-        rw (ap (at left) (sym (lies .is)) ∙ left-at h n (lies .before) (lies .less), ap (at x) (sym (lies .is)))
-        (back-near N tab H x rec Q routes h 0 0 0 (part N X h) (part N X (suc h)) (brought h (omega (arith, lies .before))) (brought (suc h) (lies .before)) n (lies .less))
+        rw (ap (at left) (sym (lies .is)) ∙ left-at N H X out played h n (lies .before) (lies .less), ap (at x) (sym (lies .is)))
+        (back-near N tab H x rec Q routes h 0 0 0 (c h) (c (suc h)) (brought h (omega (arith, lies .before))) (brought (suc h) (lies .before)) n (lies .less))
 
-    same-at : Q ≤ 9 → routes h ≡ Direct → routes (suc h) ≡ Direct → at left i ≡ at x i
-    same-at q e f =
+    same-at : Q h ≤ 9 → Q (suc h) ≤ 9 → routes h ≡ Direct → routes (suc h) ≡ Direct → at left i ≡ at x i
+    same-at q q′ e f =
         ap (at left) (sym (lies .is))
-        ∙ left-at h n (lies .before) (lies .less)
-        ∙ back-same N tab H x rec Q routes h 0 0 0 (part N X h) (part N X (suc h)) (brought h (omega (arith, lies .before))) (brought (suc h) (lies .before)) q e f n (lies .less)
+        ∙ left-at N H X out played h n (lies .before) (lies .less)
+        ∙ back-same N tab H x rec Q routes h 0 0 0 (c h) (c (suc h)) (brought h (omega (arith, lies .before))) (brought (suc h) (lies .before)) q q′ e f n (lies .less)
         ∙ ap (at x) (lies .is)
 
   pub back : Back N H Q routes x (playedOut N H X out) × SharperBack N H Q routes x (playedOut N H X out)
-  unfolding left innerOf
+  unfolding innerOf
   back = (
     record {
-      long = left-long;
-      inner = rw (shaped-of N tab H (facts .hops) (length left) left-long);
-      near = λ i p. near-asked Q (routes (i / (N / 2))) (routes (suc (i / (N / 2)))) (near-at i p);
-      same = λ q i p e f. same-at i p (omega arith) e f;
+      long = left-long N H X out played;
+      inner = rw (shaped-of N tab H (facts .hops) (length left) (left-long N H X out played));
+      near = λ i p. near-asked (Q (i / (N / 2))) (Q (suc (i / (N / 2)))) (routes (i / (N / 2))) (routes (suc (i / (N / 2)))) (near-at i p);
+      same = λ i p q q′ e f. same-at i p (omega arith) (omega arith) e f;
     },
-    record { near = near-at; same = λ q i p e f. same-at i p q e f },
+    record { near = near-at; same = same-at },
   )
+
+-- with one Q for all blocks it is document 01's claim
+pub back-one : (N H Q : ℕ) (routes : ℕ → Route) (x out : List ℤ) → Back N H (λ b. Q) routes x out → BackOneQ N H Q routes x out
+back-one N H Q routes x out back = record { back = back; each = λ i p. restored Q (routes (i / (N / 2))) (routes (suc (i / (N / 2)))) (back .near i p) (back .same i p) }
 
 -- ---- the theorems, each with what is proved beyond it
 -- one call analysed the recording, by either route; a second, which returned 0, synthesised the changed coefficients
-pub back-by-one-call : (N H Q : ℕ) (route : Route) (x X out : List ℤ) → ((i : ℕ) → i < length x → Sample (at x i)) → ByOneCall N H Q route x X →
+pub back-by-one-call : (N H : ℕ) (Q : ℕ → ℕ) (route : Route) (x X out : List ℤ) → ((i : ℕ) → i < length x → Sample (at x i)) → ByOneCall N H Q route x X →
     playedCode N H X out ≡ 0 → Back N H Q (λ b. route) x (playedOut N H X out) × SharperBack N H Q (λ b. route) x (playedOut N H X out)
 unfolding analysis
 back-by-one-call N H Q route x X out samples given played =
@@ -123,10 +139,10 @@ back-by-one-call N H Q route x X out samples given played =
     back N H Q (λ b. route) x X out rec played (λ b p. is-T (f .offers))
     (λ b p k q.
     let e = joined-at (λ b. coefficients route N 0 0 (block N x b)) (N / 2) (H + 1) (λ b p. coefficients-length route N 0 0 (block N x b)) (pos 0) (H + 1) b k (omega arith) (omega arith) q in
-    rw (e) at (rw (← is) at (given .near (b * (N / 2) + k) (omega (arith, within b (H + 1) (N / 2) (omega arith))))))
+    rw e at (rw (← is) at (given .near b p k q)))
 
 -- the blocks were analysed one by one, each by its own route
-pub back-block-by-block : (N H Q : ℕ) (routes : ℕ → Route) (x X out : List ℤ) → Recording N H x → BlockByBlock N H Q routes x X →
+pub back-block-by-block : (N H : ℕ) (Q : ℕ → ℕ) (routes : ℕ → Route) (x X out : List ℤ) → Recording N H x → BlockByBlock N H Q routes x X →
     playedCode N H X out ≡ 0 → Back N H Q routes x (playedOut N H X out) × SharperBack N H Q routes x (playedOut N H X out)
 back-block-by-block N H Q routes x X out rec given played =
     back N H Q routes x X out rec played (λ b p. analysed-offered (routes b) N 0 0 (block N x b) (given .buffer b) (given .taken b p))

@@ -9,9 +9,9 @@ use Rattle.analysis.specs.declared.Route.{Route}
 use Rattle.stream_calls.specs.Streams.{step}
 use Rattle.state_calls.specs.States.{entries, streamIn, freshCode, freshState, stepState}
 use Rattle.state_calls.specs.StateLaws.{fresh-tabled, fresh-holds, fresh-long, same-code, same-out, same-stream, same-long}
-use Rattle.demands.specs.Steps.{Offer, answered, run, after, turns, final, Recording, Numbered, Answered, Returned, WholeReturned, Sharper}
+use Rattle.demands.specs.Steps.{Offer, answered, run, after, turns, final, Recording, Numbered, Answered, Returned, WholeReturned, ReturnedOneQ, Sharper}
 use Rattle.demands.specs.Chains.{called, calls, held}
-use Rattle.demands.specs.ThereAndBackLaws.{every-list, there-and-back, whole-returned, there-and-back-sharper}
+use Rattle.demands.specs.ThereAndBackLaws.{every-list, there-and-back, whole-returned, returned-one, there-and-back-sharper}
 
 -- ---- one call is one step
 module _ (state : List ℤ) (a : length state ≡ entries) (o : Offer) where
@@ -53,17 +53,22 @@ module _ (N : ℕ) (state : List ℤ) (z : freshCode N state ≡ 0) (offers : Li
   pub calls-answered : Answered N (calls (freshState N state) offers) (held (freshState N state) offers)
   calls-answered = rw (fresh-calls, fresh-held) (every-list N (fresh-tabled N state z) offers)
 
-  pub calls-there-and-back : (H Q : ℕ) (routes : ℕ → Route) (x : List ℤ) → Recording N H x →
+  pub calls-there-and-back : (H : ℕ) (Q : ℕ → ℕ) (routes : ℕ → Route) (x : List ℤ) → Recording N H x →
       Numbered N H Q routes x (calls (freshState N state) offers) → Returned N Q routes x (calls (freshState N state) offers) (held (freshState N state) offers)
   calls-there-and-back H Q routes x rec numbered =
       rw (fresh-calls, fresh-held) (there-and-back N (fresh-tabled N state z) H Q routes x rec offers (rw fresh-calls at numbered))
 
-  pub calls-whole : (H Q : ℕ) (routes : ℕ → Route) (x : List ℤ) → Recording N H x →
+  pub calls-whole : (H : ℕ) (Q : ℕ → ℕ) (routes : ℕ → Route) (x : List ℤ) → Recording N H x →
       Numbered N H Q routes x (calls (freshState N state) offers) → WholeReturned N H Q routes x (calls (freshState N state) offers)
   calls-whole H Q routes x rec numbered =
       rw fresh-calls (whole-returned N (fresh-tabled N state z) H Q routes x rec offers (rw fresh-calls at numbered))
 
-  pub calls-sharper : (H Q : ℕ) (routes : ℕ → Route) (x : List ℤ) → Recording N H x →
+  pub calls-one : (H Q : ℕ) (routes : ℕ → Route) (x : List ℤ) → Recording N H x →
+      Numbered N H (λ b. Q) routes x (calls (freshState N state) offers) → ReturnedOneQ N H Q routes x (calls (freshState N state) offers) (held (freshState N state) offers)
+  calls-one H Q routes x rec numbered =
+      rw (fresh-calls, fresh-held) (returned-one N (fresh-tabled N state z) H Q routes x rec offers (rw fresh-calls at numbered))
+
+  pub calls-sharper : (H : ℕ) (Q : ℕ → ℕ) (routes : ℕ → Route) (x : List ℤ) → Recording N H x →
       Numbered N H Q routes x (calls (freshState N state) offers) → Sharper N Q routes x (calls (freshState N state) offers)
   calls-sharper H Q routes x rec numbered =
       rw fresh-calls (there-and-back-sharper N (fresh-tabled N state z) H Q routes x rec offers (rw fresh-calls at numbered))

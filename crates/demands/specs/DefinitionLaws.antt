@@ -49,6 +49,7 @@ use Rattle.checks.specs.LimitLaws.{counted-most}
 use Rattle.page.specs.Page.{pageCode, pageOut}
 use Rattle.page.specs.PageLaws.{page-count, page-ended, page-long, byte-at, columns-at, no-feed-at, number-at, apart-at, block-at, blanks-at, page-only}
 use Rattle.page.specs.AnswerLaws.{Paged, page-facts, page-taken}
+use Rattle.demands.specs.MovedLaws.{levelled-on, restored-on, ruled-on}
 use Rattle.demands.specs.StepLaws.{taken-stream, taken-buffer}
 use Rattle.demands.specs.RecordingLaws.{windowed, by-direct, by-short}
 use Rattle.demands.specs.Steps.{Offer, Turn, answered, run, turns, Entry}
@@ -57,7 +58,8 @@ use Rattle.demands.specs.RunLaws.{code, answered-code, no-entry}
 use Rattle.demands.specs.StreamLaws.{fresh-is}
 use Rattle.demands.specs.AnswerLaws.{demand-1}
 use Rattle.demands.specs.Recordings.{offering, outputs}
-use Rattle.demands.specs.Demands.{SoundTail, Fitting, window, y, X, V′, Analysed, Stepped-on, Recorded-on, Played-on, Paged-on, Demand-2}
+use Rattle.demands.specs.Answers.{SoundTail, Fitting}
+use Rattle.demands.specs.Demands.{window, y, X, V′, Analysed, Stepped-on, Recorded-on, Played-on, Paged-on, Demand-2}
 
 -- ---- the window is that of the definitions below, and with long joints it is W
 window-is : (N l r n : ℕ) → A.window N (rising l N) (falling r N) n ≡ window N l r n
@@ -295,4 +297,7 @@ demand-2 = record {
   played = λ N H x out e rooms fit. played-on N H x out e rooms fit;
   paged = paged-on;
   pages = two-pages;
+  ruled = ruled-on;
+  quantised = levelled-on;
+  dequantised = restored-on;
 }

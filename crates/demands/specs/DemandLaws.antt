@@ -1,16 +1,29 @@
--- The three demands, proved: `demand-1`, `demand-2` and `demand-3` are the records of Demands, and `beyond` what is proved beyond the third.
-use Rattle.demands.specs.Demands.{Demand-1, Demand-2, Demand-3, Beyond}
+-- The three demands, proved: `demand-1`, `demand-2` and `demand-3` are the records of Demands, `levels-kept` is that of levels, and `beyond` what is proved beyond the third.
+use Rattle.recording_calls.specs.Recordings.{playedOut}
+use Rattle.demands.specs.Demands.{Demand-1, Demand-2, OneQ, Demand-3, Levels-kept, Beyond}
+use Rattle.demands.specs.RecordingLaws.{proved-one}
 use Rattle.demands.specs.AnswerLaws as Answers
 use Rattle.demands.specs.DefinitionLaws as Definitions
-use Rattle.demands.specs.ThereAndBackLaws.{every-list, there-and-back, whole-returned, there-and-back-sharper}
-use Rattle.demands.specs.ChainLaws.{calls-answered, calls-there-and-back, calls-whole, calls-sharper}
-use Rattle.demands.specs.BackLaws.{back-by-one-call, back-block-by-block}
+use Rattle.demands.specs.ThereAndBackLaws.{every-list, there-and-back, whole-returned, returned-one, there-and-back-sharper}
+use Rattle.demands.specs.ChainLaws.{calls-answered, calls-there-and-back, calls-whole, calls-one, calls-sharper}
+use Rattle.demands.specs.MovedLaws as Moved
+use Rattle.demands.specs.StoredLaws as Stored
+use Rattle.demands.specs.StoredListLaws as StoredLists
+use Rattle.demands.specs.BackLaws.{back-one, back-by-one-call, back-block-by-block}
 
 pub demand-1 : Demand-1
 demand-1 = Answers.demand-1
 
 pub demand-2 : Demand-2
 demand-2 = Definitions.demand-2
+
+one-Q : OneQ
+one-Q = record {
+  list = returned-one;
+  calls = λ N state z H Q routes x rec offers numbered. calls-one N state z offers H Q routes x rec numbered;
+  once = λ N H Q route x c out s g e. back-one N H Q (λ b. route) x (playedOut N H c out) (back-by-one-call N H (λ b. Q) route x c out s g e .0);
+  blocks = λ N H Q routes x c out r g e. back-one N H Q routes x (playedOut N H c out) (back-block-by-block N H (λ b. Q) routes x c out r g e .0);
+}
 
 pub demand-3 : Demand-3
 demand-3 = record {
@@ -21,6 +34,22 @@ demand-3 = record {
   calls = λ N state z H Q routes x rec offers numbered. (calls-there-and-back N state z offers H Q routes x rec numbered, calls-whole N state z offers H Q routes x rec numbered);
   once = λ N H Q route x c out s g e. back-by-one-call N H Q route x c out s g e .0;
   blocks = λ N H Q routes x c out r g e. back-block-by-block N H Q routes x c out r g e .0;
+  one-Q = one-Q;
+}
+
+pub levels-kept : Levels-kept
+levels-kept = record {
+  moved = Moved.moved;
+  goes-back = Moved.dequantise-takes;
+  always-taken = Moved.always-taken;
+  list = Stored.told-kept;
+  calls = Stored.told-kept-calls;
+  answered = StoredLists.loads-answered;
+  calls-answered = λ N state z offers. StoredLists.load-calls-answered N state z offers;
+  levels = λ N t H tables routes x rec offers given. StoredLists.loads-kept N t offers H tables routes x rec given;
+  level-calls = λ N state z H tables routes x rec offers given. StoredLists.load-calls-kept N state z offers H tables routes x rec given;
+  once = Stored.stored-once;
+  blocks = λ N H tables routes x c out z rec given. Stored.stored-back N H tables routes x c out z rec given;
 }
 
 pub beyond : Beyond
@@ -29,4 +58,5 @@ beyond = record {
   calls = λ N state z H Q routes x rec offers numbered. calls-sharper N state z offers H Q routes x rec numbered;
   once = λ N H Q route x c out s g e. back-by-one-call N H Q route x c out s g e .1;
   blocks = λ N H Q routes x c out r g e. back-block-by-block N H Q routes x c out r g e .1;
+  one = proved-one;
 }

@@ -1,5 +1,5 @@
--- Two lists of steps at N = 12: a recording of three hops, through joints that pass from long to short and back, and one of a single hop, their blocks as they are
--- brought, and what is offered, refused steps among it; and their blocks with long joints for the calls over whole recordings. ExampleLaws applies the theorems to them.
+-- Lists of steps at N = 12: a recording of three hops, through joints that pass from long to short and back, the same with one block changed more than the others, and a
+-- recording of a single hop, their blocks as they are brought, and what is offered, refused steps among it; and their blocks with long joints for the calls over whole recordings. ExampleLaws applies the theorems to them.
 use mathlib.Core.List.{List, [], _∷_, _++_}
 use Prim.Native.Nat.{ℕ, zero, suc}
 use lib.ListN.{replicate}
@@ -61,6 +61,16 @@ block-3 = changed
     (minus 653647 ∷ pos 283986 ∷ pos 2229876 ∷ minus 3208115 ∷ pos 275489 ∷ pos 3556052 ∷ [])
     (pos 7 ∷ pos 7 ∷ minus 7 ∷ pos 2 ∷ pos 0 ∷ minus 6 ∷ [])
 
+-- changed further, so by up to 500, where the others are changed by up to 7
+unfoldable pub coarse-3 : List ℤ
+coarse-3 = changed block-3 (pos 493 ∷ minus 340 ∷ pos 7 ∷ minus 502 ∷ pos 1 ∷ pos 77 ∷ [])
+
+unfoldable pub bounds : ℕ → ℕ
+bounds zero = 7
+bounds (suc zero) = 7
+bounds (suc (suc zero)) = 7
+bounds (suc (suc (suc b))) = 500
+
 -- blocks 1 and 2 with a short joint between them
 unfoldable pub sharp-1 : List ℤ
 sharp-1 = changed
@@ -108,6 +118,10 @@ offers =
     offer 1 0 1 loud room ∷ offer 3 0 0 block-3 room ∷ offer 1 0 1 sharp-1 room ∷ offer 2 0 0 sharp-2 room ∷ offer 2 1 0 sharp-2 small-room ∷
     offer 2 1 0 sharp-2 room ∷ offer 7 9 9 loud small-room ∷ offer 2 1 0 block-0 room ∷ offer 3 0 0 low room ∷ offer 3 0 0 block-3 room ∷ offer 4 0 0 loud room ∷
     offer 4294967295 0 0 block-0 room ∷ []
+
+-- block 3 with the large changes, too early, and again
+unfoldable pub uneven-offers : List Offer
+uneven-offers = offer 0 0 0 block-0 room ∷ offer 1 0 1 sharp-1 room ∷ offer 3 0 0 coarse-3 room ∷ offer 2 1 0 sharp-2 room ∷ offer 3 0 0 coarse-3 room ∷ []
 
 unfoldable pub knock-offers : List Offer
 knock-offers = offer 0 0 0 block-0 room ∷ offer 1 0 0 loud room ∷ offer 1 0 0 knock-1 room ∷ []

@@ -9,8 +9,19 @@ pub mod ThereAndBackLaws
 pub mod ChainLaws
 pub mod Recordings
 pub mod BackLaws
+pub mod Answers
 pub mod Demands
+pub mod LevelStepLaws
+pub mod MovedLaws
+pub mod Stored
+pub mod StoredLaws
+pub mod StoredLists
 pub mod ListingAnswerLaws
+pub mod CauseTestLaws
+pub mod TableAnswerLaws
+pub mod LevelAnswerLaws
+pub mod LoadLaws
+pub mod StoredListLaws
 pub mod AnswerLaws
 pub mod DefinitionLaws
 pub mod DemandLaws
@@ -19,4 +30,6 @@ pub mod Turned
 pub mod TurnLaws
 pub mod Example
 pub mod ExampleLaws
+pub mod RecordingExampleLaws
+pub mod LevelExampleLaws
 pub mod ListingLaws

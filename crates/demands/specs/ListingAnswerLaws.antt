@@ -14,13 +14,12 @@ use Rattle.arithmetic.specs.TestLaws.{is-true, is-false}
 use Rattle.cosine.specs.Kernels.{tabled}
 use Rattle.text.specs.Number.{isNumber, value}
 use Rattle.text.specs.Lines.{lines, remainder}
-use Rattle.listing.specs.declared.verdict.Verdict.{Verdict}
 use Rattle.listing.specs.Hops.{digits, isHop}
 use Rattle.listing.specs.Verdicts.{limit, refused, taken, byHops, byLength, byLines, verdict}
 use Rattle.listing.specs.Print.{refusal}
 use Rattle.listing.specs.Listing.{returnedHops, table, listing}
 use Rattle.listing.specs.SizeLaws.{listing-most}
-use Rattle.demands.specs.Demands.{Tabled, Begun, Hops, ListingAnswers}
+use Rattle.demands.specs.Answers.{Tabled, Begun, Hops, ListingAnswers}
 
 -- ---- the lines behind the first, H₀ hops being read
 hops-first : (N H : ℕ) (l : List ℕ) (ls : List (List ℕ)) → Hops N (suc H) (l ∷ ls) → T (isHop (N / 2) l)

@@ -63,7 +63,7 @@ module _ (N : ℕ) (t : T (tabled N)) (hs : List (List ℤ)) (a : Hops (N / 2) h
   abbrev routes : ℕ → Route
   routes b = Direct
 
-  brought : (b : ℕ) → b ≤ length hs → Brought N (length hs) 0 routes x b 0 0 (analysed N x b)
+  brought : (b : ℕ) → b ≤ length hs → Brought N (length hs) (λ b. 0) routes x b 0 0 (analysed N x b)
   unfolding analysed offered
   brought b p = record {
     exists = p;
@@ -82,7 +82,7 @@ module _ (N : ℕ) (t : T (tabled N)) (hs : List (List ℤ)) (a : Hops (N / 2) h
       same : (n : ℕ) → n < N / 2 → at (returned N (analysed N x) (suc b)) n ≡ at (getD hs b []) n
       same n q =
           returned-at N (analysed N x) b n q
-          ∙ back-same N t (length hs) x (recorded (omega arith)) 0 routes b 0 0 0 (analysed N x b) (analysed N x (suc b)) (brought b (omega arith)) (brought (suc b) p) (omega arith) refl refl n q
+          ∙ back-same N t (length hs) x (recorded (omega arith)) (λ b. 0) routes b 0 0 0 (analysed N x b) (analysed N x (suc b)) (brought b (omega arith)) (brought (suc b) p) (omega arith) (omega arith) refl refl n q
           ∙ recording-at (N / 2) hs a b n p q
 
 -- ---- the listing

@@ -2,7 +2,7 @@
 use mathlib.Core.Path.{_≡_, ap, _∙_}
 use mathlib.Core.List.{List}
 use Prim.Native.Nat.{ℕ, suc, _+_, _*_, _/_, _≤_, _<_, _^_, max}
-use native.Mathlib.Nat.{le-trans, suc-mul, mul-le-mul-right, le-max-left, le-max-right, max-le}
+use native.Mathlib.Nat.{le-trans, suc-mul, mul-le-mul-right, le-max-left, le-max-right}
 use native.Mathlib.Omega.{arith}
 use lib.Dec.{T}
 use lib.IntN.{ℤ, pos, natAbs, _-ℤ_, _+ℤ_}
@@ -26,37 +26,44 @@ use Rattle.reconstruction.specs.ReturnLaws.{by-asked}
 use Rattle.reconstruction.specs.DistanceLaws.{joint-neighbours, returned-each, returned-same}
 use Rattle.analysis.specs.declared.Route.{Route}
 use Rattle.analysis.specs.declared.Route.the-variants.{Direct, Short}
-use Rattle.analysis.specs.Analysis.{offered, spectrum, coefficients}
+use Rattle.analysis.specs.Analysis.{offered, spectrum, coefficients, unitsOf}
 use Rattle.recording.specs.Recordings.{padded, block}
 use Rattle.recording.specs.BlockLaws.{padded-at, padded-each, block-at}
-use Rattle.demands.specs.Steps.{Recording, Brought, unitsOf, change, provedUnits, provedChange}
+use Rattle.demands.specs.Steps.{Recording, Brought, change, Restored, provedUnits, provedChange}
 
 -- ---- the change where two blocks meet is no less than that of each, and no more than what is asked
-pub change-first : (Q : ℕ) (r r′ : Route) → Q + provedUnits r ≤ provedChange Q r r′
+pub change-first : (Q Q′ : ℕ) (r r′ : Route) → Q + provedUnits r ≤ provedChange Q Q′ r r′
 unfolding provedChange
-change-first Q r r′ = omega (arith, le-max-left (provedUnits r) (provedUnits r′))
+change-first Q Q′ r r′ = le-max-left (Q + provedUnits r) (Q′ + provedUnits r′)
 
-pub change-second : (Q : ℕ) (r r′ : Route) → Q + provedUnits r′ ≤ provedChange Q r r′
+pub change-second : (Q Q′ : ℕ) (r r′ : Route) → Q′ + provedUnits r′ ≤ provedChange Q Q′ r r′
 unfolding provedChange
-change-second Q r r′ = omega (arith, le-max-right (provedUnits r) (provedUnits r′))
+change-second Q Q′ r r′ = le-max-right (Q + provedUnits r) (Q′ + provedUnits r′)
 
 units-asked : (r : Route) → provedUnits r ≤ unitsOf r
 unfolding provedUnits unitsOf
 units-asked Direct = omega arith
 units-asked Short = omega arith
 
-pub change-asked : (Q : ℕ) (r r′ : Route) → provedChange Q r r′ ≤ change Q r r′
+pub change-asked : (Q Q′ : ℕ) (r r′ : Route) → provedChange Q Q′ r r′ ≤ change Q Q′ r r′
 unfolding provedChange change
-change-asked Q r r′ =
-    let m = max (unitsOf r) (unitsOf r′) in
-    let h : max (provedUnits r) (provedUnits r′) ≤ m =
-    max-le (le-trans (units-asked r) (le-max-left (unitsOf r) (unitsOf r′))) (le-trans (units-asked r′) (le-max-right (unitsOf r) (unitsOf r′)))
-    in
-    omega arith
+change-asked Q Q′ r r′ = omega (arith, units-asked r, units-asked r′)
 
-pub change-direct : (Q : ℕ) (r r′ : Route) → r ≡ Direct → r′ ≡ Direct → provedChange Q r r′ ≡ Q
+pub change-direct : (Q Q′ : ℕ) (r r′ : Route) → r ≡ Direct → r′ ≡ Direct → Q ≤ 9 → Q′ ≤ 9 → provedChange Q Q′ r r′ ≤ 9
 unfolding provedChange provedUnits
-change-direct Q r r′ e f = rw (e, f) (omega arith)
+change-direct Q Q′ r r′ e f q q′ = rw (e, f) (omega arith)
+
+-- ---- one Q for both blocks: the larger of their routes' units is added
+pub change-one : (Q : ℕ) (r r′ : Route) → change Q Q r r′ ≡ Q + max (unitsOf r) (unitsOf r′)
+unfolding change
+change-one Q r r′ = omega arith
+
+pub proved-one : (Q : ℕ) (r r′ : Route) → provedChange Q Q r r′ ≡ Q + max (provedUnits r) (provedUnits r′)
+unfolding provedChange
+proved-one Q r r′ = omega arith
+
+pub restored : (Q : ℕ) (r r′ : Route) {z a : ℤ} → natAbs (z -ℤ a) ≤ (change Q Q r r′ + 8) / 16 → (Q ≤ 7 → Q ≤ 7 → r ≡ Direct → r′ ≡ Direct → z ≡ a) → Restored Q r r′ z a
+restored Q r r′ near same = record { near = rw (change-one Q r r′) at near; same = λ q. same q q }
 
 -- the block x, windowed by joints of the shapes l and r
 abbrev pub windowed : (N l r : ℕ) → List ℤ → ℕ → ℤ
@@ -113,9 +120,9 @@ module _ (N : ℕ) (t : T (tabled N)) (H : ℕ) (x : List ℤ) (rec : Recording 
           rw (block-at N x b (N / 2 + n) (omega (arith, len .four)), block-at N x (suc b) n (omega (arith, len .four)), e)
 
   -- ---- the hop that they share
-  module _ (Q : ℕ) (routes : ℕ → Route) (b l j r : ℕ) (c₁ c₂ : List ℤ) (brought₁ : Brought N H Q routes x b l j c₁) (brought₂ : Brought N H Q routes x (suc b) j r c₂) where
+  module _ (Q : ℕ → ℕ) (routes : ℕ → Route) (b l j r : ℕ) (c₁ c₂ : List ℤ) (brought₁ : Brought N H Q routes x b l j c₁) (brought₂ : Brought N H Q routes x (suc b) j r c₂) where
     abbrev Q′ : ℕ
-    Q′ = provedChange Q (routes b) (routes (suc b))
+    Q′ = provedChange (Q b) (Q (suc b)) (routes b) (routes (suc b))
 
     -- the sample that comes back at place n
     abbrev back : ℕ → ℤ
@@ -125,19 +132,19 @@ module _ (N : ℕ) (t : T (tabled N)) (H : ℕ) (x : List ℤ) (rec : Recording 
     nb = neighbours b l j r
 
     near₁ : (k : ℕ) → k < N / 2 → natAbs (at c₁ k -ℤ X N (windowed N l j (block N x b)) k) ≤ Q′
-    near₁ k p = le-trans (near-direct N l j (block N x b) (windowed-size b l j) Q (routes b) (brought₁ .offers) (at c₁ k) k p (brought₁ .near k p)) (change-first Q (routes b) (routes (suc b)))
+    near₁ k p = le-trans (near-direct N l j (block N x b) (windowed-size b l j) (Q b) (routes b) (brought₁ .offers) (at c₁ k) k p (brought₁ .near k p)) (change-first (Q b) (Q (suc b)) (routes b) (routes (suc b)))
 
     near₂ : (k : ℕ) → k < N / 2 → natAbs (at c₂ k -ℤ X N (windowed N j r (block N x (suc b))) k) ≤ Q′
-    near₂ k p = le-trans (near-direct N j r (block N x (suc b)) (windowed-size (suc b) j r) Q (routes (suc b)) (brought₂ .offers) (at c₂ k) k p (brought₂ .near k p)) (change-second Q (routes b) (routes (suc b)))
+    near₂ k p = le-trans (near-direct N j r (block N x (suc b)) (windowed-size (suc b) j r) (Q (suc b)) (routes (suc b)) (brought₂ .offers) (at c₂ k) k p (brought₂ .near k p)) (change-second (Q b) (Q (suc b)) (routes b) (routes (suc b)))
 
     pub back-near : (n : ℕ) → n < N / 2 → natAbs (back n -ℤ at x (b * (N / 2) + n)) ≤ (3 * Q′ + 36) / 64
     back-near n p = rw (← (block-hop b n (brought₂ .exists) p)) (returned-each N t nb Q′ c₁ c₂ near₁ near₂ n p)
 
-    pub back-same : Q ≤ 9 → routes b ≡ Direct → routes (suc b) ≡ Direct → (n : ℕ) → n < N / 2 → back n ≡ at x (b * (N / 2) + n)
-    back-same q e f n p =
-        let g : Q′ ≤ 9 = rw (change-direct Q (routes b) (routes (suc b)) e f) q in
+    pub back-same : Q b ≤ 9 → Q (suc b) ≤ 9 → routes b ≡ Direct → routes (suc b) ≡ Direct → (n : ℕ) → n < N / 2 → back n ≡ at x (b * (N / 2) + n)
+    back-same q q′ e f n p =
+        let g : Q′ ≤ 9 = change-direct (Q b) (Q (suc b)) (routes b) (routes (suc b)) e f q q′ in
         rw (← (block-hop b n (brought₂ .exists) p)) (returned-same N t nb Q′ c₁ c₂ near₁ near₂ g n p)
 
 -- ---- the sharper claims give those that are asked
-pub near-asked : (Q : ℕ) (r r′ : Route) {d : ℕ} → d ≤ (3 * provedChange Q r r′ + 36) / 64 → d ≤ (change Q r r′ + 8) / 16
-near-asked Q r r′ h = le-trans h (by-asked (provedChange Q r r′) (change Q r r′) (change-asked Q r r′))
+pub near-asked : (Q Q′ : ℕ) (r r′ : Route) {d : ℕ} → d ≤ (3 * provedChange Q Q′ r r′ + 36) / 64 → d ≤ (change Q Q′ r r′ + 8) / 16
+near-asked Q Q′ r r′ h = le-trans h (by-asked (provedChange Q Q′ r r′) (change Q Q′ r r′) (change-asked Q Q′ r r′))

@@ -1,5 +1,5 @@
 -- Demand 3 for the calls over whole recordings: definitions. Document 01, 'Sound there and back', its last but one paragraph, and document 02, P1. That they hold
--- together are `back-by-one-call` and `back-block-by-block` of BackLaws. The codes and buffers are those that the public calls' contracts cite.
+-- together are `back-by-one-call`, `back-block-by-block` and, for one Q, `back-one` of BackLaws. The codes and buffers are those that the public calls' contracts cite.
 use mathlib.Core.Path.{_≡_}
 use mathlib.Core.List.{List, [], _∷_, _++_}
 use Prim.Native.Nat.{ℕ, zero, suc, _+_, _*_, _/_, _≤_, _<_}
@@ -11,33 +11,38 @@ use Rattle.analysis.specs.declared.Route.the-variants.{Direct}
 use Rattle.recording.specs.Recordings.{block, part}
 use Rattle.block_calls.specs.Analysis.{analyseCode, analyseOut}
 use Rattle.recording_calls.specs.Recordings.{recordedCode, recordedOut, innerOf}
-use Rattle.demands.specs.Steps.{Offer, Turn, change, provedChange}
+use Rattle.demands.specs.Steps.{Offer, Turn, change, Restored, provedChange}
 
--- ---- what the synthesis is handed: X, of all blocks of the recording x, each coefficient changed by a whole number from -Q to Q
+-- ---- what the synthesis is handed: X, of all blocks of the recording x, each coefficient changed by a whole number from -Q to Q, where Q b is block b's own Q
 -- analysed by one call, which left the coefficients in `buffer`
-pub record ByOneCall (N H Q : ℕ) (route : Route) (x X : List ℤ) : Type 0 where
+pub record ByOneCall (N H : ℕ) (Q : ℕ → ℕ) (route : Route) (x X : List ℤ) : Type 0 where
   pub buffer : List ℤ
   pub taken : recordedCode route N H x buffer ≡ 0
-  pub near : (i : ℕ) → i < (H + 1) * (N / 2) → natAbs (at X i -ℤ at (recordedOut route N H x buffer) i) ≤ Q
+  pub near : (b : ℕ) → b ≤ H → (k : ℕ) → k < N / 2 → natAbs (at X (b * (N / 2) + k) -ℤ at (recordedOut route N H x buffer) (b * (N / 2) + k)) ≤ Q b
 
 -- analysed block by block, each by its own route, with long joints, into its own buffer
-pub record BlockByBlock (N H Q : ℕ) (routes : ℕ → Route) (x X : List ℤ) : Type 0 where
+pub record BlockByBlock (N H : ℕ) (Q : ℕ → ℕ) (routes : ℕ → Route) (x X : List ℤ) : Type 0 where
   pub buffer : ℕ → List ℤ
   pub taken : (b : ℕ) → b ≤ H → analyseCode (routes b) N 0 0 (block N x b) (buffer b) ≡ 0
-  pub near : (b : ℕ) → b ≤ H → (k : ℕ) → k < N / 2 → natAbs (at X (b * (N / 2) + k) -ℤ at (analyseOut (routes b) N 0 0 (block N x b) (buffer b)) k) ≤ Q
+  pub near : (b : ℕ) → b ≤ H → (k : ℕ) → k < N / 2 → natAbs (at X (b * (N / 2) + k) -ℤ at (analyseOut (routes b) N 0 0 (block N x b) (buffer b)) k) ≤ Q b
 
 -- ---- the claim: `out` is what a taken synthesis left. `inner` gives all of it, and each of its H × M samples is held against the recording's sample
 -- at the same place, i, which blocks i / M and i / M + 1 cover
-pub record Back (N H Q : ℕ) (routes : ℕ → Route) (x out : List ℤ) : Type 0 where
+pub record Back (N H : ℕ) (Q : ℕ → ℕ) (routes : ℕ → Route) (x out : List ℤ) : Type 0 where
   pub long : length out ≡ H * (N / 2)
   pub inner : innerOf N H out ≡ out
-  pub near : (i : ℕ) → i < H * (N / 2) → natAbs (at out i -ℤ at x i) ≤ (change Q (routes (i / (N / 2))) (routes (suc (i / (N / 2)))) + 8) / 16
-  pub same : Q ≤ 7 → (i : ℕ) → i < H * (N / 2) → routes (i / (N / 2)) ≡ Direct → routes (suc (i / (N / 2))) ≡ Direct → at out i ≡ at x i
+  pub near : (i : ℕ) → i < H * (N / 2) → natAbs (at out i -ℤ at x i) ≤ (change (Q (i / (N / 2))) (Q (suc (i / (N / 2)))) (routes (i / (N / 2))) (routes (suc (i / (N / 2)))) + 8) / 16
+  pub same : (i : ℕ) → i < H * (N / 2) → Q (i / (N / 2)) ≤ 7 → Q (suc (i / (N / 2))) ≤ 7 → routes (i / (N / 2)) ≡ Direct → routes (suc (i / (N / 2))) ≡ Direct → at out i ≡ at x i
+
+-- in document 01's words, with one Q for all blocks
+pub record BackOneQ (N H Q : ℕ) (routes : ℕ → Route) (x out : List ℤ) : Type 0 where
+  pub back : Back N H (λ b. Q) routes x out
+  pub each : (i : ℕ) → i < H * (N / 2) → Restored Q (routes (i / (N / 2))) (routes (suc (i / (N / 2)))) (at out i) (at x i)
 
 -- beyond what is asked, of the same buffer
-pub record SharperBack (N H Q : ℕ) (routes : ℕ → Route) (x out : List ℤ) : Type 0 where
-  pub near : (i : ℕ) → i < H * (N / 2) → natAbs (at out i -ℤ at x i) ≤ (3 * provedChange Q (routes (i / (N / 2))) (routes (suc (i / (N / 2)))) + 36) / 64
-  pub same : Q ≤ 9 → (i : ℕ) → i < H * (N / 2) → routes (i / (N / 2)) ≡ Direct → routes (suc (i / (N / 2))) ≡ Direct → at out i ≡ at x i
+pub record SharperBack (N H : ℕ) (Q : ℕ → ℕ) (routes : ℕ → Route) (x out : List ℤ) : Type 0 where
+  pub near : (i : ℕ) → i < H * (N / 2) → natAbs (at out i -ℤ at x i) ≤ (3 * provedChange (Q (i / (N / 2))) (Q (suc (i / (N / 2)))) (routes (i / (N / 2))) (routes (suc (i / (N / 2)))) + 36) / 64
+  pub same : (i : ℕ) → i < H * (N / 2) → Q (i / (N / 2)) ≤ 9 → Q (suc (i / (N / 2))) ≤ 9 → routes (i / (N / 2)) ≡ Direct → routes (suc (i / (N / 2))) ≡ Direct → at out i ≡ at x i
 
 -- ---- the steps that a synthesis stands for: block after block of X, each under its number and with long joints, from block b on, count of them, each with a buffer of its own
 unfoldable pub offering : ℕ → List ℤ → (ℕ → List ℤ) → ℕ → ℕ → List Offer

@@ -7,10 +7,8 @@ use Prim.Native.Nat.{ℕ, zero, suc, _/_, _^_, _*_, _≤_, _<_}
 use native.Mathlib.Omega.{arith}
 use borrow.Author.Tests.{eq-eqb}
 use lib.Dec.{T, eqb, eqb·suc-zero}
-use lib.IntN.{ℤ, pos, negℤ, natAbs}
-use lib.Signed.{leZ}
+use lib.IntN.{ℤ, natAbs}
 use Rattle.arithmetic.specs.Lists.{at}
-use Rattle.arithmetic.specs.OrderLaws.{abs-le}
 use Rattle.arithmetic.specs.TestLaws.{both-make, all-at, all-make, is-true}
 use Rattle.cosine.specs.Kernels.{tabled}
 use Rattle.stream.specs.declared.Stream.{Stream}
@@ -22,14 +20,7 @@ use Rattle.stream_calls.specs.StreamLaws.{step-number, step-tabled}
 use Rattle.checks.specs.CauseLaws as C
 use Rattle.checks.specs.CauseLaws.{first-is, differs, never, spared, Passed}
 use Rattle.checks.specs.Causes.First.{pass}
-use Rattle.checks.specs.LimitLaws.{within-abs}
-
--- ---- within a limit
-pub abs-within : (z : ℤ) (b : ℕ) → natAbs z ≤ b → T (within z b)
-unfolding within
-abs-within z b h =
-    let p = abs-le z b .0 h in
-    both-make (leZ (negℤ (pos b)) z) (leZ z (pos b)) (p .1 .le) (p .0 .le)
+use Rattle.checks.specs.LimitLaws.{within-abs, abs-within}
 
 -- a choice by the number
 pub code-zero : {A : Type 0} (c : ℕ) (x y : A) → c ≡ 0 → cond (eqb c 0) x y ≡ x
@@ -96,11 +87,10 @@ taken-sound s number l r x out z =
     let n = next-n (s .n) s refl l r x in
     sound-of (next s l r x) (rw n t) (rw n (next-limited (s .n) t s refl l r x (taken-size s number l r x out z)))
 
--- so after the last number every block is 7
-pub last-number : (s : Stream) (l r : ℕ) (x out : List ℤ) → stepCode s 4294967295 l r x out ≡ 0 → (number l′ r′ : ℕ) → number < 2 ^ 32 → (y room : List ℤ) →
-    stepCode (step s 4294967295 l r x out .stream) number l′ r′ y room ≡ 7
-last-number s l r x out z number l′ r′ p y room =
+-- so the stream after the last number is sound and expects a number that no block has
+pub last-stream : (s : Stream) (l r : ℕ) (x out : List ℤ) → stepCode s 4294967295 l r x out ≡ 0 → (number : ℕ) → number < 2 ^ 32 →
+    let s′ = step s 4294967295 l r x out .stream in T (sound s′) × (number ≢ s′ .expected)
+last-stream s l r x out z number p =
     let e = step-number s 4294967295 l r x out z in
     rw (taken-stream s 4294967295 l r x out z)
-    (sound-seven (next s l r x) number l′ r′ y room (taken-sound s 4294967295 l r x out z)
-    (λ (f : number ≡ next s l r x .expected). omega (arith, e, f, p, next-expected (s .n) s refl l r x)))
+    (taken-sound s 4294967295 l r x out z, (λ (f : number ≡ next s l r x .expected). omega (arith, e, f, p, next-expected (s .n) s refl l r x)))

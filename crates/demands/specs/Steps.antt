@@ -1,5 +1,5 @@
--- Demand 3 for a list of synthesis steps on one stream: definitions. Document 01, 'Sound there and back', and document 02, P1, P6 and P7. That they hold together is
--- `there-and-back` of ThereAndBackLaws. `fresh`, `step`, `stepOut` and `coefficients` are those that the public calls' contracts cite.
+-- Demand 3 for a list of synthesis steps on one stream: definitions. Document 01, 'Sound there and back', and document 02, P1, P6 and P7. That they hold together are
+-- `there-and-back`, `whole-returned` and, for one Q, `returned-one` of ThereAndBackLaws. `fresh`, `step`, `stepOut` and `coefficients` are those that the public calls' contracts cite.
 use mathlib.Core.Path.{_≡_}
 use mathlib.Core.Logic.{_≢_}
 use mathlib.Core.Bool.{cond}
@@ -10,13 +10,12 @@ use lib.ListN.{length, take, drop, replicate}
 use lib.IntN.{ℤ, pos, natAbs, _-ℤ_}
 use Rattle.arithmetic.specs.Lists.{at}
 use Rattle.arithmetic.specs.Rounding.{Sample}
-use Rattle.split.specs.ShortRoute.{units}
 use Rattle.stream.specs.Synthesis.{storage}
 use Rattle.stream.specs.declared.Stream.{Stream}
 use Rattle.analysis.specs.declared.Route.{Route}
 use Rattle.analysis.specs.declared.Route.the-variants.{Direct, Short}
 use Rattle.stream_calls.specs.declared.Stepped.{Stepped}
-use Rattle.analysis.specs.Analysis.{offered, coefficients}
+use Rattle.analysis.specs.Analysis.{offered, coefficients, unitsOf}
 use Rattle.recording.specs.Recordings.{block}
 use Rattle.stream_calls.specs.Streams.{fresh, step, stepOut}
 
@@ -85,26 +84,21 @@ pub record Recording (N H : ℕ) (x : List ℤ) : Type 0 where
   pub sample : (i : ℕ) → i < length x → Sample (at x i)
 
 -- c are the M coefficients of block b of x, analysed by its own route, which is offered at N, with joints of the shapes left and right, each changed by a whole
--- number from -Q to Q. That they are in range isn't asked: a step that takes them says so
-pub record Brought (N H Q : ℕ) (routes : ℕ → Route) (x : List ℤ) (b left right : ℕ) (c : List ℤ) : Type 0 where
+-- number from -Q to Q, where Q b is the block's own Q. That they are in range isn't asked: a step that takes them says so
+pub record Brought (N H : ℕ) (Q : ℕ → ℕ) (routes : ℕ → Route) (x : List ℤ) (b left right : ℕ) (c : List ℤ) : Type 0 where
   pub exists : b ≤ H
   pub offers : T (offered (routes b) N)
   pub long : length c ≡ N / 2
-  pub near : (k : ℕ) → k < N / 2 → natAbs (at c k -ℤ at (coefficients (routes b) N left right (block N x b)) k) ≤ Q
+  pub near : (k : ℕ) → k < N / 2 → natAbs (at c k -ℤ at (coefficients (routes b) N left right (block N x b)) k) ≤ Q b
 
--- each step that is taken under number b brings block b, analysed with the shapes that it is offered with. Nothing is asked of the order of the offers, of how often a block is offered, or of the refused ones
-pub record Numbered (N H Q : ℕ) (routes : ℕ → Route) (x : List ℤ) (us : List Turn) : Type 0 where
+-- each step that is taken under number b brings block b, changed within its own Q and analysed with the shapes that it is offered with. Nothing is asked of the order of the offers, of how often a block is offered, or of the refused ones
+pub record Numbered (N H : ℕ) (Q : ℕ → ℕ) (routes : ℕ → Route) (x : List ℤ) (us : List Turn) : Type 0 where
   pub each : (j : ℕ) (t : Turn) → Entry (taken us) j t → Brought N H Q routes x (t .offer .number) (t .offer .left) (t .offer .right) (t .offer .brought)
 
 -- ---- the claim
--- the units in which a route may lie away from the definition
-unfoldable pub unitsOf : Route → ℕ
-unitsOf Direct = 0
-unitsOf Short = units
-
--- what Q stands for where two blocks meet: the larger of their routes' units is added
-unfoldable pub change : ℕ → Route → Route → ℕ
-change Q r r′ = Q + max (unitsOf r) (unitsOf r′)
+-- what stands for Q where two blocks meet, of which the first has Q and the second Q′: the larger of the two, each with its route's units
+unfoldable pub change : (Q Q′ : ℕ) → Route → Route → ℕ
+change Q Q′ r r′ = max (Q + unitsOf r) (Q′ + unitsOf r′)
 
 -- of a list of steps as a whole, us its turns and last the stream after it, whatever its taken steps bring
 pub record Answered (N : ℕ) (us : List Turn) (last : Stream) : Type 0 where
@@ -135,31 +129,46 @@ pub record Answered (N : ℕ) (us : List Turn) (last : Stream) : Type 0 where
 
 -- and where each taken step brings the block of its number: the step that is taken under number b + 1 returns hop b of the recording, which blocks b and
 -- b + 1 share
-pub record Returned (N Q : ℕ) (routes : ℕ → Route) (x : List ℤ) (us : List Turn) (last : Stream) : Type 0 where
+pub record Returned (N : ℕ) (Q : ℕ → ℕ) (routes : ℕ → Route) (x : List ℤ) (us : List Turn) (last : Stream) : Type 0 where
   pub answered : Answered N us last
   pub hop-near : (j : ℕ) (t : Turn) → Entry (taken us) j t → (b : ℕ) → t .offer .number ≡ suc b → (n : ℕ) → n < N / 2 →
-      natAbs (at (t .output) n -ℤ at x (b * (N / 2) + n)) ≤ (change Q (routes b) (routes (suc b)) + 8) / 16
-  pub hop-same : (j : ℕ) (t : Turn) → Entry (taken us) j t → (b : ℕ) → t .offer .number ≡ suc b → Q ≤ 7 → routes b ≡ Direct → routes (suc b) ≡ Direct →
+      natAbs (at (t .output) n -ℤ at x (b * (N / 2) + n)) ≤ (change (Q b) (Q (suc b)) (routes b) (routes (suc b)) + 8) / 16
+  pub hop-same : (j : ℕ) (t : Turn) → Entry (taken us) j t → (b : ℕ) → t .offer .number ≡ suc b → Q b ≤ 7 → Q (suc b) ≤ 7 → routes b ≡ Direct → routes (suc b) ≡ Direct →
       (n : ℕ) → n < N / 2 → at (t .output) n ≡ at x (b * (N / 2) + n)
 
 -- in the customer's words: once all H + 1 blocks are taken, every sample of the recording has returned. Sample i is place i % M of hop i / M, and
 -- stands there in the buffer of the step that was taken under number i / M + 1
-pub record WholeReturned (N H Q : ℕ) (routes : ℕ → Route) (x : List ℤ) (us : List Turn) : Type 0 where
+pub record WholeReturned (N H : ℕ) (Q : ℕ → ℕ) (routes : ℕ → Route) (x : List ℤ) (us : List Turn) : Type 0 where
   pub near : length (taken us) ≡ H + 1 → (i : ℕ) → i < H * (N / 2) → (t : Turn) × Entry (taken us) (suc (i / (N / 2))) t × (t .offer .number ≡ suc (i / (N / 2))) ×
-      (natAbs (at (t .output) (i % (N / 2)) -ℤ at x i) ≤ (change Q (routes (i / (N / 2))) (routes (suc (i / (N / 2)))) + 8) / 16)
-  pub same : length (taken us) ≡ H + 1 → Q ≤ 7 → (i : ℕ) → i < H * (N / 2) → routes (i / (N / 2)) ≡ Direct → routes (suc (i / (N / 2))) ≡ Direct →
+      (natAbs (at (t .output) (i % (N / 2)) -ℤ at x i) ≤ (change (Q (i / (N / 2))) (Q (suc (i / (N / 2)))) (routes (i / (N / 2))) (routes (suc (i / (N / 2)))) + 8) / 16)
+  pub same : length (taken us) ≡ H + 1 → (i : ℕ) → i < H * (N / 2) → Q (i / (N / 2)) ≤ 7 → Q (suc (i / (N / 2))) ≤ 7 → routes (i / (N / 2)) ≡ Direct → routes (suc (i / (N / 2))) ≡ Direct →
       (t : Turn) × Entry (taken us) (suc (i / (N / 2))) t × (t .offer .number ≡ suc (i / (N / 2))) × (at (t .output) (i % (N / 2)) ≡ at x i)
 
--- ---- beyond what is asked, of the same list: (3 Q + 36) / 64, equal up to Q = 9, and 7 units for the short route
+-- ---- the claim in document 01's words, with one Q for all blocks: λ b. Q in the records above
+-- of a sample that two blocks cover, analysed by the routes r and r′: z, which comes back in the place of a, is within (Q + 8) / 16 of it, with Q + 16 for Q where one
+-- of the routes is the short one; up to Q = 7 and by direct routes it is a
+pub record Restored (Q : ℕ) (r r′ : Route) (z a : ℤ) : Type 0 where
+  pub near : natAbs (z -ℤ a) ≤ (Q + max (unitsOf r) (unitsOf r′) + 8) / 16
+  pub same : Q ≤ 7 → r ≡ Direct → r′ ≡ Direct → z ≡ a
+
+-- so of each hop that the list returns, and, once all H + 1 blocks are taken, of every sample of the recording
+pub record ReturnedOneQ (N H Q : ℕ) (routes : ℕ → Route) (x : List ℤ) (us : List Turn) (last : Stream) : Type 0 where
+  pub returned : Returned N (λ b. Q) routes x us last
+  pub hop : (j : ℕ) (t : Turn) → Entry (taken us) j t → (b : ℕ) → t .offer .number ≡ suc b → (n : ℕ) → n < N / 2 →
+      Restored Q (routes b) (routes (suc b)) (at (t .output) n) (at x (b * (N / 2) + n))
+  pub whole : length (taken us) ≡ H + 1 → (i : ℕ) → i < H * (N / 2) → (t : Turn) × Entry (taken us) (suc (i / (N / 2))) t × (t .offer .number ≡ suc (i / (N / 2))) ×
+      Restored Q (routes (i / (N / 2))) (routes (suc (i / (N / 2)))) (at (t .output) (i % (N / 2))) (at x i)
+
+-- ---- beyond what is asked, of the same list: (3 Q + 36) / 64, equal where both blocks have a Q up to 9, and 7 units for the short route
 unfoldable pub provedUnits : Route → ℕ
 provedUnits Direct = 0
 provedUnits Short = 7
 
-unfoldable pub provedChange : ℕ → Route → Route → ℕ
-provedChange Q r r′ = Q + max (provedUnits r) (provedUnits r′)
+unfoldable pub provedChange : (Q Q′ : ℕ) → Route → Route → ℕ
+provedChange Q Q′ r r′ = max (Q + provedUnits r) (Q′ + provedUnits r′)
 
-pub record Sharper (N Q : ℕ) (routes : ℕ → Route) (x : List ℤ) (us : List Turn) : Type 0 where
+pub record Sharper (N : ℕ) (Q : ℕ → ℕ) (routes : ℕ → Route) (x : List ℤ) (us : List Turn) : Type 0 where
   pub hop-near : (j : ℕ) (t : Turn) → Entry (taken us) j t → (b : ℕ) → t .offer .number ≡ suc b → (n : ℕ) → n < N / 2 →
-      natAbs (at (t .output) n -ℤ at x (b * (N / 2) + n)) ≤ (3 * provedChange Q (routes b) (routes (suc b)) + 36) / 64
-  pub hop-same : (j : ℕ) (t : Turn) → Entry (taken us) j t → (b : ℕ) → t .offer .number ≡ suc b → Q ≤ 9 → routes b ≡ Direct → routes (suc b) ≡ Direct →
+      natAbs (at (t .output) n -ℤ at x (b * (N / 2) + n)) ≤ (3 * provedChange (Q b) (Q (suc b)) (routes b) (routes (suc b)) + 36) / 64
+  pub hop-same : (j : ℕ) (t : Turn) → Entry (taken us) j t → (b : ℕ) → t .offer .number ≡ suc b → Q b ≤ 9 → Q (suc b) ≤ 9 → routes b ≡ Direct → routes (suc b) ≡ Direct →
       (n : ℕ) → n < N / 2 → at (t .output) n ≡ at x (b * (N / 2) + n)

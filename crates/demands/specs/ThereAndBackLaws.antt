@@ -1,4 +1,4 @@
--- Demand 3 for a list of synthesis steps, the theorem: `there-and-back`. Inductions over the list say which numbers are taken, what every turn does, and what the hops are.
+-- Demand 3 for a list of synthesis steps, the theorem: `there-and-back`, and for one Q `returned-one`. Inductions over the list say which numbers are taken, what every turn does, and what the hops are.
 use mathlib.Core.Path.{_≡_, refl, ap, _∙_}
 use mathlib.Core.Logic.{_≢_}
 use mathlib.Core.List.{List, [], _∷_}
@@ -19,11 +19,11 @@ use Rattle.stream.specs.Synthesis as Y
 use Rattle.stream.specs.Steps.{next, hop}
 use Rattle.stream_calls.specs.Streams.{fresh}
 use Rattle.stream_calls.specs.StreamLaws.{step-number, step-left}
-use Rattle.demands.specs.Steps.{Offer, Turn, answered, run, after, taken, turns, final, Entry, Recording, Brought, Numbered, provedChange, Answered, Returned, WholeReturned, Sharper}
+use Rattle.demands.specs.Steps.{Offer, Turn, answered, run, after, taken, turns, final, Entry, Recording, Brought, Numbered, provedChange, Answered, Returned, WholeReturned, Restored, ReturnedOneQ, Sharper}
 use Rattle.demands.specs.Steps.Entry.{first, later}
 use Rattle.demands.specs.StepLaws.{taken-buffer, taken-stream, sound-seven, only-seven}
 use Rattle.demands.specs.RunLaws.{code, answered-code, refused-stream, refused-buffer, taken-yes, taken-no, run-taken, run-refused, after-refused, no-entry, entry-at, entry-taken}
-use Rattle.demands.specs.RecordingLaws.{hop-of, back-near, back-same, near-asked}
+use Rattle.demands.specs.RecordingLaws.{hop-of, back-near, back-same, near-asked, restored}
 use Rattle.stream.specs.NextLaws.{Fine, hop-long, hop-at, next-at}
 use Rattle.demands.specs.StreamLaws.{fresh-is, fine-made, fine-sound, fine-four, fine-answered, fine-after, taken-next}
 
@@ -192,7 +192,7 @@ module _ (N : ℕ) (t : T (tabled N)) where
   every-turn (o ∷ offers) s fine i u first = turned s fine o
   every-turn (o ∷ offers) s fine i u (later {i = k} e) = every-turn offers (answered s o .answer .stream) (fine-answered N t s fine o) k u e
 
-  module _ (H Q : ℕ) (routes : ℕ → Route) (x : List ℤ) (rec : Recording N H x) where
+  module _ (H : ℕ) (Q : ℕ → ℕ) (routes : ℕ → Route) (x : List ℤ) (rec : Recording N H x) where
     -- ---- the hops. A stream before the step that brings block j: its tail is what block j - 1 left, and it ends with that block's right joint
     record Before (b : ℕ) (s : Stream) : Type 0 where
       c : List ℤ
@@ -206,8 +206,8 @@ module _ (N : ℕ) (t : T (tabled N)) where
 
     -- what the turn u that brings block b + 1 returns
     record Kept (b : ℕ) (u : Turn) : Type 0 where
-      near : (n : ℕ) → n < N / 2 → natAbs (at (u .output) n -ℤ at x (b * (N / 2) + n)) ≤ (3 * provedChange Q (routes b) (routes (suc b)) + 36) / 64
-      same : Q ≤ 9 → routes b ≡ Direct → routes (suc b) ≡ Direct → (n : ℕ) → n < N / 2 → at (u .output) n ≡ at x (b * (N / 2) + n)
+      near : (n : ℕ) → n < N / 2 → natAbs (at (u .output) n -ℤ at x (b * (N / 2) + n)) ≤ (3 * provedChange (Q b) (Q (suc b)) (routes b) (routes (suc b)) + 36) / 64
+      same : Q b ≤ 9 → Q (suc b) ≤ 9 → routes b ≡ Direct → routes (suc b) ≡ Direct → (n : ℕ) → n < N / 2 → at (u .output) n ≡ at x (b * (N / 2) + n)
 
     module _ (s : Stream) (o : Offer) (zero-code : code s o ≡ 0) where
       kept : (b : ℕ) → State (suc b) s → Brought N H Q routes x (suc b) (o .left) (o .right) (o .brought) → Kept b (answered s o)
@@ -216,7 +216,7 @@ module _ (N : ℕ) (t : T (tabled N)) where
           let met : Brought N H Q routes x (suc b) (s .shape) (o .right) (o .brought) = rw (as-ended s o zero-code) at brought in
           record {
             near = λ n p. rw (is v n p) (back-near N t H x rec Q routes b (v .l) (s .shape) (o .right) (v .c) (o .brought) (v .brought) met n p);
-            same = λ q e f n p. rw (is v n p) (back-same N t H x rec Q routes b (v .l) (s .shape) (o .right) (v .c) (o .brought) (v .brought) met q e f n p);
+            same = λ q q′ e f n p. rw (is v n p) (back-same N t H x rec Q routes b (v .l) (s .shape) (o .right) (v .c) (o .brought) (v .brought) met q q′ e f n p);
           }
         where
           is : (v : Before b s) (n : ℕ) → n < N / 2 →
@@ -311,38 +311,60 @@ every-list N t offers =
       final-zero = last .zeros;
     }
 
--- the claim about the list as a whole: N is tabled, x is a recording, and each step that is taken brings the block of its number, changed by at most Q
-pub there-and-back : (N : ℕ) → T (tabled N) → (H Q : ℕ) (routes : ℕ → Route) (x : List ℤ) → Recording N H x →
+-- the claim about the list as a whole: N is tabled, x is a recording, and each step that is taken brings the block of its number, block b changed by at most Q b
+pub there-and-back : (N : ℕ) → T (tabled N) → (H : ℕ) (Q : ℕ → ℕ) (routes : ℕ → Route) (x : List ℤ) → Recording N H x →
     (offers : List Offer) → Numbered N H Q routes x (turns N offers) → Returned N Q routes x (turns N offers) (final N offers)
 there-and-back N t H Q routes x rec offers numbered =
     let is = numbered-by N t offers in
     let hop = all-hops N t H Q routes x rec offers numbered .each in
     record {
       answered = every-list N t offers;
-      hop-near = λ j u e b f n p. near-asked Q (routes b) (routes (suc b)) (hop j u e b (omega (arith, f, is j u e)) .near n p);
-      hop-same = λ j u e b f q. hop j u e b (omega (arith, f, is j u e)) .same (omega arith);
+      hop-near = λ j u e b f n p. near-asked (Q b) (Q (suc b)) (routes b) (routes (suc b)) (hop j u e b (omega (arith, f, is j u e)) .near n p);
+      hop-same = λ j u e b f q q′. hop j u e b (omega (arith, f, is j u e)) .same (omega arith) (omega arith);
     }
 
--- once all blocks are taken, every sample has returned
-pub whole-returned : (N : ℕ) → T (tabled N) → (H Q : ℕ) (routes : ℕ → Route) (x : List ℤ) → Recording N H x →
+-- once all blocks are taken, every sample has returned: sample i, in the hop of the step that was taken under number i / M + 1
+holds-sample : (N : ℕ) → T (tabled N) → (H : ℕ) (offers : List Offer) → length (taken (turns N offers)) ≡ H + 1 → (i : ℕ) → i < H * (N / 2) →
+    (u : Turn) × Entry (taken (turns N offers)) (suc (i / (N / 2))) u × (u .offer .number ≡ suc (i / (N / 2)))
+holds-sample N t H offers all i p =
+    let (u, e) = entry-at (taken (turns N offers)) (suc (i / (N / 2))) (omega (arith, all, hop-of N t H i p .before)) in
+    (u, e, numbered-by N t offers (suc (i / (N / 2))) u e)
+
+pub whole-returned : (N : ℕ) → T (tabled N) → (H : ℕ) (Q : ℕ → ℕ) (routes : ℕ → Route) (x : List ℤ) → Recording N H x →
     (offers : List Offer) → Numbered N H Q routes x (turns N offers) → WholeReturned N H Q routes x (turns N offers)
 whole-returned N t H Q routes x rec offers numbered =
     let back = there-and-back N t H Q routes x rec offers numbered in
     record {
       near = λ all i p.
           let l = hop-of N t H i p in
-          let (u, e) = entry-at (taken (turns N offers)) (suc (i / (N / 2))) (omega (arith, all, l .before)) in
-          let f = back .answered .numbers (suc (i / (N / 2))) u e in
+          let (u, e, f) = holds-sample N t H offers all i p in
           (u, e, f, rw (ap (at x) (l .is)) at (back .hop-near (suc (i / (N / 2))) u e (i / (N / 2)) f (i % (N / 2)) (l .less)));
-      same = λ all q i p d d′.
+      same = λ all i p q q′ d d′.
           let l = hop-of N t H i p in
-          let (u, e) = entry-at (taken (turns N offers)) (suc (i / (N / 2))) (omega (arith, all, l .before)) in
-          let f = back .answered .numbers (suc (i / (N / 2))) u e in
-          (u, e, f, back .hop-same (suc (i / (N / 2))) u e (i / (N / 2)) f q d d′ (i % (N / 2)) (l .less) ∙ ap (at x) (l .is));
+          let (u, e, f) = holds-sample N t H offers all i p in
+          (u, e, f, back .hop-same (suc (i / (N / 2))) u e (i / (N / 2)) f q q′ d d′ (i % (N / 2)) (l .less) ∙ ap (at x) (l .is));
     }
 
+-- with one Q for all blocks it is document 01's claim
+pub returned-one : (N : ℕ) → T (tabled N) → (H Q : ℕ) (routes : ℕ → Route) (x : List ℤ) → Recording N H x →
+    (offers : List Offer) → Numbered N H (λ b. Q) routes x (turns N offers) → ReturnedOneQ N H Q routes x (turns N offers) (final N offers)
+returned-one N t H Q routes x rec offers numbered = record {
+  returned = there-and-back N t H (λ b. Q) routes x rec offers numbered;
+  hop = back;
+  whole = λ all i p.
+      let l = hop-of N t H i p in
+      let (u, e, f) = holds-sample N t H offers all i p in
+      (u, e, f, rw (ap (at x) (l .is)) at (back (suc (i / (N / 2))) u e (i / (N / 2)) f (i % (N / 2)) (l .less)));
+}
+  where
+    back : (j : ℕ) (u : Turn) → Entry (taken (turns N offers)) j u → (b : ℕ) → u .offer .number ≡ suc b → (n : ℕ) → n < N / 2 →
+        Restored Q (routes b) (routes (suc b)) (at (u .output) n) (at x (b * (N / 2) + n))
+    back j u e b f n p =
+        let r = there-and-back N t H (λ b. Q) routes x rec offers numbered in
+        restored Q (routes b) (routes (suc b)) (r .hop-near j u e b f n p) (λ q q′ d d′. r .hop-same j u e b f q q′ d d′ n p)
+
 -- and what is proved of it beyond that
-pub there-and-back-sharper : (N : ℕ) → T (tabled N) → (H Q : ℕ) (routes : ℕ → Route) (x : List ℤ) → Recording N H x →
+pub there-and-back-sharper : (N : ℕ) → T (tabled N) → (H : ℕ) (Q : ℕ → ℕ) (routes : ℕ → Route) (x : List ℤ) → Recording N H x →
     (offers : List Offer) → Numbered N H Q routes x (turns N offers) → Sharper N Q routes x (turns N offers)
 there-and-back-sharper N t H Q routes x rec offers numbered =
     let hop = all-hops N t H Q routes x rec offers numbered .each in

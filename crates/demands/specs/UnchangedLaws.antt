@@ -12,7 +12,7 @@ use Rattle.arithmetic.specs.Rounding.{Sample}
 use Rattle.arithmetic.specs.Lists.{at}
 use Rattle.arithmetic.specs.TestLaws.{is-T}
 use Rattle.arithmetic.specs.IntegerLaws.{ints}
-use Rattle.arithmetic.specs.JoinLaws.{Place, joined-length, joined-at}
+use Rattle.arithmetic.specs.JoinLaws.{Place, joined-at}
 use Rattle.cosine.specs.Kernels.{tabled}
 use Rattle.cosine.specs.LengthLaws.{length-of}
 use Rattle.transform.specs.SizeLaws.{X-taken}
@@ -24,11 +24,11 @@ use Rattle.checks.specs.LimitLaws.{counted-some, counted-most}
 use Rattle.recording_calls.specs.Recordings.{recordedCode, recordedOut, playedCode, playedOut}
 use Rattle.recording_calls.specs.RecordingLaws.{Recorded, recorded-facts, recorded-taken}
 use Rattle.demands.specs.Steps.{Recording}
-use Rattle.demands.specs.Demands.{InRange}
+use Rattle.demands.specs.Answers.{InRange}
 use Rattle.demands.specs.Recordings.{ByOneCall}
 use Rattle.demands.specs.RecordingLaws.{hop-of, by-direct, windowed, windowed-size}
 use Rattle.demands.specs.AnswerLaws.{demand-1}
-use Rattle.demands.specs.BackLaws.{back-by-one-call}
+use Rattle.demands.specs.BackLaws.{recorded-long, back-by-one-call}
 
 -- a coefficient that is handed on as it was
 pub unchanged : (z : ℤ) → natAbs (z -ℤ z) ≤ 0
@@ -53,10 +53,7 @@ module _ (N H : ℕ) (x buffer : List ℤ) (samples : (i : ℕ) → i < length x
   are = recorded-taken Direct N H x buffer taken .1
 
   long : length X ≡ (H + 1) * (N / 2)
-  unfolding analysis
-  long =
-      ap length (sym are)
-      ∙ joined-length (λ b. coefficients Direct N 0 0 (block N x b)) (N / 2) (H + 1) (λ b p. coefficients-length Direct N 0 0 (block N x b)) (H + 1) (omega arith)
+  long = recorded-long Direct N H x buffer taken
 
   range : InRange X
   unfolding analysis
@@ -76,6 +73,6 @@ module _ (N H : ℕ) (x buffer : List ℤ) (samples : (i : ℕ) → i < length x
   pub unchanged-back : (out : List ℤ) → length out ≡ H * (N / 2) → playedOut N H X out ≡ x
   unchanged-back out room =
       let played = unchanged-taken out room in
-      let given : ByOneCall N H 0 Direct x X = record { buffer = buffer; taken = taken; near = λ i p. unchanged (at X i) } in
-      let back = back-by-one-call N H 0 Direct x X out samples given played .0 in
-      ext-getD (pos 0) (playedOut N H X out) x (back .long ∙ sym (facts .long)) (λ i p. back .same (lit≤ tt) i (omega (arith, back .long)) refl refl)
+      let given : ByOneCall N H (λ b. 0) Direct x X = record { buffer = buffer; taken = taken; near = λ b p k q. unchanged (at X (b * (N / 2) + k)) } in
+      let back = back-by-one-call N H (λ b. 0) Direct x X out samples given played .0 in
+      ext-getD (pos 0) (playedOut N H X out) x (back .long ∙ sym (facts .long)) (λ i p. back .same i (omega (arith, back .long)) (lit≤ tt) (lit≤ tt) refl refl)

@@ -1,6 +1,13 @@
-// The public calls of the bank, by family: one block, streams as values and in states, whole recordings. What each promises stands with it.
+// The public calls of the bank, by family: one block, step tables and levels, streams as values and in states, whole recordings. What each promises stands with it.
 pub use analysis::Route;
 pub use block_calls::analyse;
+pub use level_calls::Told;
+pub use level_calls::dequantise;
+pub use level_calls::quantise;
+pub use level_calls::step_levels;
+pub use level_calls::step_levels_in_place;
+pub use level_calls::tell;
+pub use level_calls::told_distance;
 pub use recording_calls::analyse_recording;
 pub use recording_calls::inner;
 pub use recording_calls::synthesise_recording;

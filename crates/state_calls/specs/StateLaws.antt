@@ -8,23 +8,25 @@ use Prim.Native.Nat.{ℕ, _+_, _-_, _≤_}
 use native.Mathlib.Nat.{not-suc-le-zero}
 use native.Mathlib.Omega.{arith}
 use borrow.Author.Tests.{le-ltb, ne-eqb}
+use borrow.Rule.Slice.PartAt.{part-to-end}
 use borrow.Rule.Slice.PartMut.{putMid}
 use lib.Dec.{T, eqb, eqb→eq}
 use lib.ListN.{length, length-drop, length-replicate, take, drop, set, drop-of-length-le, take-append-drop}
 use lib.IntN.{ℤ, pos, negsuc}
 use Rattle.arithmetic.specs.Lists.{at, table}
 use Rattle.arithmetic.specs.TestLaws.{is-true}
-use Rattle.cosine.specs.Kernels.{tabled}
+use Rattle.cosine.specs.Kernels.{tabled, rising, falling}
 use Rattle.cosine.specs.LengthLaws.{length-of}
 use Rattle.stream.specs.declared.Stream.{Stream}
 use Rattle.stream.specs.Synthesis as Y
 use Rattle.stream.specs.Steps.{next, hop}
 use Rattle.stream.specs.NextLaws.{next-long}
-use Rattle.checks.specs.Causes.{First}
+use Rattle.stream.specs.StepLaws.{Valid}
+use Rattle.checks.specs.Causes.{First, firstCause}
 use Rattle.checks.specs.CauseLaws.{first-is, is-first, same, differs, spared, Passed, passed, leaves}
 use Rattle.stream_calls.specs.Streams as S
-use Rattle.stream_calls.specs.StreamLaws.{step-number, step-tabled, step-shape}
-use Rattle.state_calls.specs.States.{entries, none, numberIn, shapeIn, streamIn, stateOf, freshCauses, freshCode, freshState, stepCauses, stepCode, stepState, stepOut}
+use Rattle.stream_calls.specs.StreamLaws.{step-number, step-tabled, step-shape, step-valid}
+use Rattle.state_calls.specs.States.{entries, none, numberIn, shapeIn, streamIn, stateOf, freshCauses, freshCode, freshState, admitCauses, admitCode, stepCauses, stepCode, stepState, stepOut}
 
 -- ---- numbers in entries
 number-pos : (n other : ℕ) → numberIn (pos n) other ≡ n
@@ -45,6 +47,12 @@ shape-pos n h = rw (le-ltb n 0 (omega arith), le-ltb 1 n h)
 pub state-holds : (s : Stream) → s .shape ≤ 1 → streamIn (stateOf s) ≡ s
 unfolding streamIn stateOf
 state-holds s h = rw (number-pos (s .n) 0, number-pos (s .expected) none, shape-pos (s .shape) h)
+
+-- the stream of the numbers read from a state and of what stands behind them
+pub held-is : (state : List ℤ) (n expected shape : ℕ) → n ≡ numberIn (at state 0) 0 → expected ≡ numberIn (at state 1) none → shape ≡ shapeIn (at state 2) →
+    S.streamOf n expected shape (take (length state - 3) (drop 3 state)) ≡ streamIn state
+unfolding streamIn
+held-is state n expected shape e f g = rw (e, f, g, part-to-end state 3)
 
 -- ---- a fresh state: N written to one of zeros
 pub fresh-made : (N : ℕ) → set (table entries (λ _. pos 0)) 0 (pos N) ≡ stateOf (Y.fresh N)
@@ -161,3 +169,36 @@ module _ (state : List ℤ) (number l r : ℕ) (x out : List ℤ) where
         by-test : (b : Bool) → eqb code 0 ≡ b → length (cond b (stateOf (next s l r x)) state) ≡ entries
         by-test true e = taken-long (eqb→eq code 0 (rw e tt))
         by-test false e = a
+
+-- ---- a step that is taken: the state is whole, and what it works on is valid
+module _ (state : List ℤ) (number l r : ℕ) (x out : List ℤ) (z : stepCode state number l r x out ≡ 0) where
+  pub taken-whole : length state ≡ entries
+  unfolding stepCode stepCauses firstCause
+  taken-whole = go (eqb (length state) entries) refl z
+    where
+      go : (b : Bool) → eqb (length state) entries ≡ b → cond b (firstCause (S.stepCauses (streamIn state) number l r x out)) 2 ≡ 0 → length state ≡ entries
+      go true e z = eqb→eq (length state) entries (rw e tt)
+      go false e z = absurd (omega (arith, z))
+
+  pub taken-valid : Valid (streamIn state .n) x (drop 3 state) out
+  unfolding streamIn
+  taken-valid = step-valid (streamIn state) number l r x out (sym (same-code state number l r x out taken-whole) ∙ z) (omega (arith, length-drop 3 state, taken-whole))
+
+  -- the new tail and the hop, as the work leaves them
+  pub taken-tail : Y.newTail (streamIn state .n) (rising l (streamIn state .n)) (falling r (streamIn state .n)) (drop 3 state) x ≡ S.step (streamIn state) number l r x out .stream .tail
+  unfolding streamIn S.step next
+  taken-tail = let e = sym (same-code state number l r x out taken-whole) ∙ z in rw e
+
+  pub taken-out : Y.hop (streamIn state .n) (rising l (streamIn state .n)) (falling r (streamIn state .n)) (drop 3 state) x ≡ stepOut state number l r x out
+  unfolding streamIn stepOut hop
+  taken-out = rw z
+
+-- ---- `admit_in`
+module _ (state : List ℤ) (number l r : ℕ) where
+  pub admit-2 : length state ≢ entries → 2 ≡ admitCode state number l r
+  unfolding admitCode admitCauses
+  admit-2 n = sym (first-is (admitCauses state number l r) (differs n))
+
+  pub admit-same : length state ≡ entries → S.admitCode (streamIn state) number l r ≡ admitCode state number l r
+  unfolding admitCode admitCauses S.admitCode
+  admit-same e = sym (first-is (admitCauses state number l r) (same e (is-first (S.admitCauses (streamIn state) number l r))))

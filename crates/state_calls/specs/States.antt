@@ -53,6 +53,13 @@ freshCode N state = firstCause (freshCauses N state)
 unfoldable pub freshState : ℕ → List ℤ → List ℤ
 freshState N state = cond (eqb (freshCode N state) 0) (stateOf (fresh N)) state
 
+-- `admit_in`: the state's length is another, then the first causes of a step on the stream that the state holds
+unfoldable pub admitCauses : List ℤ → (number left right : ℕ) → List Cause
+admitCauses state number left right = 2 unless eqb (length state) entries ∷ S.admitCauses (streamIn state) number left right
+
+unfoldable pub admitCode : List ℤ → (number left right : ℕ) → ℕ
+admitCode state number left right = firstCause (admitCauses state number left right)
+
 -- `step_in_place`: the state's length is another, then the causes of `step` on the stream that the state holds
 unfoldable pub stepCauses : List ℤ → (number left right : ℕ) → List ℤ → List ℤ → List Cause
 stepCauses state number left right x out = 2 unless eqb (length state) entries ∷ S.stepCauses (streamIn state) number left right x out

@@ -5,7 +5,7 @@ ghost use mathlib.Core.Path.{_≡_};
 ghost use lib.ListN.{length};
 ghost use lib.IntN.{pos};
 ghost use Rattle.arithmetic.specs.Lists.{table};
-ghost use Rattle.state_calls.specs.States.{entries, numberIn, shapeIn, freshCode, freshState, stepCode, stepState, stepOut};
+ghost use Rattle.state_calls.specs.States.{entries, numberIn, shapeIn, streamIn, admitCode, freshCode, freshState, stepCode, stepState, stepOut};
 
 // Entries of a state.
 pub const ENTRIES: usize = 3 + stream::STORAGE;
@@ -65,6 +65,30 @@ pub fn fresh_in_place(n: usize, state: &mut [i64]) -> u32
     0
 }
 
+// N of the stream that a state holds.
+pub fn length_in(state: &[i64]) -> usize
+    requires { ⌜ length (now state) ≡ entries ⌝ }
+    ensures { λ r. ⌜ r ≡ streamIn (now (state .entry)) .n ⌝ }
+{
+    let entry = state[0];
+    number_in(entry, 0) as usize
+}
+
+// Whether the stream that a state holds takes a block of this number and these shapes at all: 2 for the state's length, 4, 7, 8 or 0.
+pub fn admit_in(state: &[i64], number: u32, left: u32, right: u32) -> u32
+    ensures { λ r. ⌜ r ≡ admitCode (now (state .entry)) number left right ⌝ }
+{
+    if state.len() != ENTRIES {
+        return 2;
+    }
+    let n = length_in(state);
+    let next = state[1];
+    let expected = number_in(next, NONE);
+    let last = state[2];
+    let shape = shape_in(last);
+    stream_calls::admit(n, expected, shape, number, left, right, &state[3..])
+}
+
 // One step on the stream that a state holds, in place. 2: the state's length is another, before every other cause, since nothing of such a state can be
 // read. Then the causes of `step`. Refused, the state and `out` are left alone; taken, N stays, the state expects one more and the right shape, and the tail
 // is the new one.
@@ -104,4 +128,18 @@ pub fn step_in_place(
     state[1] = then as i64;
     state[2] = right as i64;
     0
+}
+
+// The work of a step that is taken, behind every check: a step on levels makes them before it has the coefficients.
+pub fn advance_in(state: &mut [i64], number: u32, left: u32, right: u32, x: &[i32], out: &mut [i16])
+    requires { ⌜ stepCode (now state) number left right (now x) (now out) ≡ 0 ⌝ }
+    ensures { λ _. ⌜ now (state .exit) ≡ stepState (now (state .entry)) number left right (now (x .entry)) (now (out .entry)) ⌝ }
+    ensures { λ _. ⌜ now (out .exit) ≡ stepOut (now (state .entry)) number left right (now (x .entry)) (now (out .entry)) ⌝ }
+{
+    let n = length_in(state);
+    synthesis::advance_tail(n, left, right, x, &mut state[3..], out);
+    let following = number as u64 + 1;
+    let ends = right as i64;
+    state[1] = following as i64;
+    state[2] = ends;
 }

@@ -6,14 +6,16 @@ use mathlib.Core.List.{List}
 use Prim.Native.Nat.{ℕ, _+_, _*_, _/_, _^_, _≤_}
 use borrow.Author.Tests.{ne-eqb}
 use lib.Dec.{T, eqb, leb, eqb→eq, leb→le}
+use lib.ListN.{length}
 use lib.IntN.{ℤ}
 use Rattle.arithmetic.specs.Lists.{at, all}
 use Rattle.arithmetic.specs.TestLaws.{all-at, both-left, both-right, is-T, is-true}
 use Rattle.cosine.specs.Kernels.{tabled}
 use Rattle.stream.specs.declared.Stream.{Stream}
-use Rattle.stream.specs.StepLaws.{Bounded}
+use Rattle.stream.specs.Synthesis.{storage}
+use Rattle.stream.specs.StepLaws.{Bounded, Valid}
 use Rattle.stream.specs.Steps.{next, hop}
-use Rattle.checks.specs.LimitLaws.{within-abs}
+use Rattle.checks.specs.LimitLaws.{within-abs, range-small}
 use Rattle.checks.specs.Causes.{First}
 use Rattle.checks.specs.CauseLaws.{first-is, leaves, spared, Passed, passed}
 use Rattle.checks.specs.Limits.{within, tailLimit, areShapes}
@@ -75,3 +77,17 @@ module _ (s : Stream) (number l r : ℕ) (x out : List ℤ) where
   pub step-shape : stepCode s number l r x out ≡ 0 → r ≤ 1
   unfolding fits areShapes
   step-shape z = leb→le r 1 (both-right (leb l 1) (leb r 1) (both-left (areShapes l r) (eqb l (s .shape)) (step-fits z)))
+
+  -- what a taken step works on is valid
+  pub step-valid : stepCode s number l r x out ≡ 0 → length (s .tail) ≡ storage → Valid (s .n) x (s .tail) out
+  unfolding stepCode stepCauses spared Passed
+  step-valid z stored =
+      let p = passed (stepCauses s number l r x out) tt z in
+      let long = eqb→eq (length x) (s .n / 2) (p .1 .1 .1 .0) in (
+        step-tabled z,
+        long,
+        range-small x (s .n / 2) long (is-true (p .1 .1 .1 .1 .1 .0)),
+        stored,
+        sound-bounded s (is-true (p .0)),
+        eqb→eq (length out) (s .n / 2) (p .1 .1 .1 .1 .0),
+      )

@@ -30,6 +30,17 @@ sound s = cond (tabled (s .n)) (soundTail s) false
 unfoldable pub fits : (left right shape : ℕ) → Bool
 fits left right shape = cond (areShapes left right) (eqb left shape) false
 
+-- whether the stream takes a block of this number and these shapes at all, whatever it brings: the first causes of every step. `admit` answers the number
+unfoldable pub admitCauses : Stream → (number left right : ℕ) → List Cause
+admitCauses s number left right =
+    4 unless sound s
+    ∷ 7 unless eqb number (s .expected)
+    ∷ 8 unless fits left right (s .shape)
+    ∷ []
+
+unfoldable pub admitCode : Stream → (number left right : ℕ) → ℕ
+admitCode s number left right = firstCause (admitCauses s number left right)
+
 -- the causes of `step`: the stream is not sound, the block's number is not the expected one, a joint's shape is above 1 or the left one not the expected one, a
 -- buffer's length is not M, a coefficient is out of range. A number has 32 bits, so a stream that expects 2^32, or more, takes no block
 unfoldable pub stepCauses : Stream → (number left right : ℕ) → List ℤ → List ℤ → List Cause

@@ -4,7 +4,7 @@
 ghost use mathlib.Core.Path.{_≡_};
 ghost use lib.ListN.{length};
 ghost use Rattle.stream.specs.Synthesis.{storage};
-ghost use Rattle.stream_calls.specs.Streams.{fresh, sound, fits, stepCode, step, stepOut, streamOf};
+ghost use Rattle.stream_calls.specs.Streams.{fresh, sound, fits, admitCode, stepCode, step, stepOut, streamOf};
 use stream::Stream;
 
 // What `fresh` answers: a number, and the stream that was made where it is 0.
@@ -55,6 +55,32 @@ fn joints_fit(left: u32, right: u32, shape: u32) -> bool
         return false;
     }
     left == shape
+}
+
+// Whether the stream of n, `expected`, `shape` and this tail takes a block of this number and these shapes at all: 4, 7, 8 or 0. A step on levels asks before it
+// reads the table, and then steps.
+pub fn admit(
+    n: usize,
+    expected: u64,
+    shape: u32,
+    number: u32,
+    left: u32,
+    right: u32,
+    tail: &[i64],
+) -> u32
+    requires { ⌜ length (now tail) ≡ storage ⌝ }
+    ensures { λ r. ⌜ r ≡ admitCode (streamOf n expected shape (now (tail .entry))) number left right ⌝ }
+{
+    if !is_sound(n, tail) {
+        return 4;
+    }
+    if expected != number as u64 {
+        return 7;
+    }
+    if !joints_fit(left, right, shape) {
+        return 8;
+    }
+    0
 }
 
 // A step on the stream of n, `expected`, `shape` and this tail, in place: every check, and the work. Refused, the tail and `out` are left alone; taken, the

@@ -3,7 +3,6 @@ use mathlib.Core.Path.{_≡_, sym, ap, ap₂, _∙_}
 use mathlib.Core.List.{List, _++_}
 use Prim.Native.Nat.{ℕ, _+_, _-_, _≤_}
 use native.Mathlib.Omega.{arith}
-use borrow.Rule.Slice.PartAt.{part-to-end}
 use borrow.Rule.Slice.PartMut.{putMid}
 use lib.ListN.{length, take, drop, set, length-set, length-append}
 use lib.Seq.{length-take-le}
@@ -15,7 +14,7 @@ use Rattle.arithmetic.specs.Lists.{at}
 use Rattle.stream.specs.declared.Stream.{Stream}
 use Rattle.stream_calls.specs.Streams as S
 use Rattle.state_calls.specs.States.{entries, none, numberIn, shapeIn, streamIn, stepCode, stepOut}
-use Rattle.state_calls.specs.StateLaws.{put-tail, step-2, same-code, same-out, refused-state, taken-state-is}
+use Rattle.state_calls.specs.StateLaws.{held-is, put-tail, step-2, same-code, same-out, refused-state, taken-state-is}
 use borrow.Author.Needs.{needs}
 use Rattle.state_calls.proofs.step_in_place.Statement.{statement}
 use Rattle.state_calls.proofs.step_in_place.Tie as tie
@@ -110,12 +109,7 @@ module _ (c : tie.After-step-tail) where
 
   -- a function of the stream, of what is handed in and of what the state holds
   carried : {X : Type 0} (f : Stream → X) → f (S.streamOf (first .number-in .result) (second .number-in2 .result) (third .shape-in .result) rest) ≡ f (streamIn state)
-  unfolding streamIn
-  carried f =
-      ap (λ (n : ℕ). f (S.streamOf n (second .number-in2 .result) (third .shape-in .result) rest)) long-is
-      ∙ ap (λ (k : ℕ). f (S.streamOf (numberIn (at state 0) 0) k (third .shape-in .result) rest)) expects
-      ∙ ap (λ (k : ℕ). f (S.streamOf (numberIn (at state 0) 0) (numberIn (at state 1) none) k rest)) ends
-      ∙ ap (λ (t : List ℤ). f (S.streamOf (numberIn (at state 0) 0) (numberIn (at state 1) none) (shapeIn (at state 2)) t)) (part-to-end state 3)
+  carried f = ap f (held-is state (first .number-in .result) (second .number-in2 .result) (third .shape-in .result) long-is expects ends)
 
   code-is : c .step-tail .result ≡ stepCode state number left right x out
   code-is = c .step-tail .ensures .0 ∙ carried (λ s. S.stepCode s number left right x out) ∙ sym (same-code state number left right x out whole)

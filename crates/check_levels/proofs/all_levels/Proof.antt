@@ -1,0 +1,46 @@
+-- `all_levels` is safe and ends: the loop counts the blocks.
+use Prim.Native.Nat.{_-_, _≤_}
+use borrow.Author.Needs.{needs}
+use Rattle.check_levels.proofs.all_levels.Statement.{statement}
+use Rattle.check_levels.proofs.all_levels.Tie as tie
+
+abbrev Inv-loop : tie.InvT-loop
+Inv-loop n m table b₀ b = b ≤ 8
+
+abbrev μ-loop : tie.MeasureT-loop
+μ-loop n m table b₀ b = 8 - b
+
+loop-holds : tie.Need-loop-holds Inv-loop μ-loop
+loop-holds c = search needs
+
+level-block-requires : tie.Need-level-block-requires Inv-loop μ-loop
+level-block-requires c κs = search needs
+
+restored-requires : tie.Need-restored-requires Inv-loop μ-loop
+restored-requires c κs = search needs
+
+add-b : tie.Need-add-b Inv-loop μ-loop
+add-b c = search needs
+
+loop-less : tie.Need-loop-less Inv-loop μ-loop
+loop-less c = search needs
+
+loop-again : tie.Need-loop-again Inv-loop μ-loop
+loop-again c = search needs
+
+returns : tie.Need-returns Inv-loop μ-loop
+returns c = search needs
+
+pub all-levels-spec : {M : Type 1} → statement M
+all-levels-spec =
+    tie.close
+    (tie.spec
+    Inv-loop
+    μ-loop
+    loop-holds
+    level-block-requires
+    restored-requires
+    add-b
+    loop-less
+    loop-again
+    returns)

@@ -1,0 +1,59 @@
+-- `offer_in_place` is safe: its parts lie in their arrays.
+use mathlib.Core.Path.{sym}
+use lib.Seq.{length-take-le}
+use borrow.Author.Needs.{needs}
+use Rattle.check_levels.proofs.offer_in_place.Statement.{statement}
+use Rattle.check_levels.proofs.offer_in_place.Tie as tie
+
+room-requires : tie.Need-room-requires
+room-requires c κs = search needs
+
+slice-aggregate-put-kind : tie.Need-slice-aggregate-put-kind
+slice-aggregate-put-kind c = search needs
+
+put-kind-requires : tie.Need-put-kind-requires
+put-kind-requires c κs = search needs
+
+array-share-prefix-buf : tie.Need-array-share-prefix-buf
+array-share-prefix-buf c = search needs
+
+slice-aggregate-show-step-in-place : tie.Need-slice-aggregate-show-step-in-place
+slice-aggregate-show-step-in-place c = sym (length-take-le _ _ (search needs))
+
+array-share-prefix-x : tie.Need-array-share-prefix-x
+array-share-prefix-x c = search needs
+
+slice-aggregate-show-step-in-place-2 : tie.Need-slice-aggregate-show-step-in-place-2
+slice-aggregate-show-step-in-place-2 c = sym (length-take-le _ _ (search needs))
+
+array-borrow-prefix-out : tie.Need-array-borrow-prefix-out
+array-borrow-prefix-out c = search needs
+
+slice-aggregate-show-step-in-place-3 : tie.Need-slice-aggregate-show-step-in-place-3
+slice-aggregate-show-step-in-place-3 c = sym (length-take-le _ _ (search needs))
+
+show-step-in-place-requires : tie.Need-show-step-in-place-requires
+show-step-in-place-requires c κs = search needs
+
+same-length : tie.Need-same-length
+same-length c = search needs
+
+returns : tie.Need-returns
+returns c = search needs
+
+pub offer-in-place-spec : {M : Type 1} → statement M
+offer-in-place-spec =
+    tie.close
+    (tie.spec
+    room-requires
+    slice-aggregate-put-kind
+    put-kind-requires
+    array-share-prefix-buf
+    slice-aggregate-show-step-in-place
+    array-share-prefix-x
+    slice-aggregate-show-step-in-place-2
+    array-borrow-prefix-out
+    slice-aggregate-show-step-in-place-3
+    show-step-in-place-requires
+    same-length
+    returns)

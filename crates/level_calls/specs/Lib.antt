@@ -1,0 +1,3 @@
+pub mod LevelCalls
+pub mod Brought
+pub mod LevelCallLaws

@@ -1,0 +1,16 @@
+-- `larger` meets its contract: its test is that of the definition.
+use borrow.Author.Tests.{lt-ltb, le-ltb}
+use Rattle.steps.specs.Table.{larger}
+use Rattle.steps.proofs.larger.Statement.{statement}
+use Rattle.steps.proofs.larger.Tie as tie
+
+returns : tie.Need-returns
+unfolding larger
+returns c = let a = c .before .args in rw (lt-ltb (a .a) (a .b) (c .if1 .taken))
+
+returns-2 : tie.Need-returns-2
+unfolding larger
+returns-2 c = let a = c .before .args in rw (le-ltb (a .a) (a .b) (c .if1 .left))
+
+pub larger-spec : {M : Type 1} → statement M
+larger-spec = tie.close (tie.spec returns returns-2)

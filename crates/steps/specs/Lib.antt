@@ -1,0 +1,9 @@
+pub mod Table
+pub mod Pass
+pub mod RowLaws
+pub mod VerdictLaws
+pub mod TakenLaws
+pub mod StepLaws
+pub mod CoverLaws
+pub mod PassLaws
+pub mod Examples
