@@ -24,16 +24,16 @@
 #include <libavutil/tx.h>
 #endif
 
-/* the most hops of a recording, and room for the coefficients of a batch */
-enum { LONGEST = 4095, BATCH = 4096 };
+/* the most hops of a recording, the most blocks of a batch, and room for its coefficients */
+enum { LONGEST = 4095, MOST_BLOCKS = 512, BATCH = 4096 };
 
 /* blocks of a batch, for some tens of microseconds at each length; a sixteenth of them still is a recording */
-static const size_t batches[LENGTHS] = {512, 256, 128, 64, 32, 32};
+static const size_t batches[LENGTHS] = {MOST_BLOCKS, 256, 128, 64, 32, 32};
 
 /* For each length a recording of random samples between two hops of zeros, its coefficients by direct analysis at long joints, those of a batch at
- * short joints, a step table, plain C's levels of a batch by it, what they come back as, and the sound of that, and room for every result. The last
- * hop of a batch is zeros too, so that its blocks are those of a recording of its own, of one hop fewer. Sound begins with the run-in, so that each
- * sample returns at its place in the padded recording. */
+ * short joints, a step table, plain C's levels of a batch by it, what they come back as, the sound of that, and what moved samples in it, and room
+ * for every result. The last hop of a batch is zeros too, so that its blocks are those of a recording of its own, of one hop fewer. Sound begins
+ * with the run-in, so that each sample returns at its place in the padded recording. */
 static int16_t all_padded[LENGTHS][(LONGEST + 2) * MOST_M], *padded;
 static int32_t all_spectra[LENGTHS][(LONGEST + 1) * MOST_M], *spectra;
 static int32_t all_short_joints[LENGTHS][BATCH], *short_joints;
@@ -42,8 +42,10 @@ static size_t table_lengths[LENGTHS], table_length;
 static int32_t all_levels[LENGTHS][BATCH], *levels;
 static int32_t all_restored[LENGTHS][BATCH], *restored;
 static int16_t all_restored_sound[LENGTHS][BATCH], *restored_sound;
+static uint32_t all_movers[LENGTHS][3 * MOST_BLOCKS], *expected_movers;
 static int32_t coefficients[(LONGEST + 1) * MOST_M];
 static int16_t sound[(LONGEST + 1) * MOST_M];
+static uint32_t movers[3 * MOST_BLOCKS];
 static int64_t tail[MOST_M];
 
 static uint32_t refused;
@@ -71,7 +73,8 @@ static uint32_t refused;
     CALL(whose, step_short_joints, direct, short_joints, sound)                     \
     CALL(whose, quantise, direct, table, table_length, spectra, coefficients)       \
     CALL(whose, dequantise, direct, table, table_length, levels, coefficients)      \
-    CALL(whose, step_levels, direct, table, table_length, levels, sound)
+    CALL(whose, step_levels, direct, table, table_length, levels, sound)            \
+    CALL(whose, largest_share, direct, spectra, restored, movers)
 
 CALLS(library)
 #ifdef BEFORE
@@ -111,6 +114,18 @@ CALLS(before)
             refused |= call(n, 0, 0, table, table_length, tail, levels + b * (n / 2), sound + b * (n / 2)); \
     }
 
+/* the samples that the library is asked about: see library.h */
+#define PLAIN_LARGEST_SHARE(call)                                                                                                  \
+    static void run_##call(size_t n, size_t blocks)                                                                                \
+    {                                                                                                                              \
+        size_t m = n / 2, place = m / 2;                                                                                           \
+        for (size_t b = 0; b < blocks; b++) {                                                                                      \
+            size_t first = b * m, second = b + 1 < blocks ? first + m : 0;                                                         \
+            call(n, b & 1, spectra + first, restored + first, spectra + second, restored + second, place, movers + 3 * b);         \
+            place = place + 1 < m ? place + 1 : 0;                                                                                 \
+        }                                                                                                                          \
+    }
+
 PLAIN_ANALYSIS(plain_o3_analyse_direct)
 PLAIN_ANALYSIS(plain_o3_analyse_folded)
 PLAIN_ANALYSIS(plain_native_analyse_direct)
@@ -125,6 +140,8 @@ PLAIN_LEVELS(plain_native_quantise, spectra)
 PLAIN_LEVELS(plain_native_dequantise, levels)
 PLAIN_STEP_LEVELS(plain_o3_step_levels)
 PLAIN_STEP_LEVELS(plain_native_step_levels)
+PLAIN_LARGEST_SHARE(plain_o3_largest_share)
+PLAIN_LARGEST_SHARE(plain_native_largest_share)
 
 static int plain_offers(int l)
 {
@@ -250,26 +267,29 @@ static void avtx_synthesis(size_t n, size_t blocks)
 }
 #endif
 
-/* What a contender's result is held to before it is timed, numbers or sound behind the run-in, and how far it may be from it. */
+/* What a contender's result is held to before it is timed, numbers, sound behind the run-in, or what is named, and how far it may be from it. */
 enum result {
-    COEFFICIENTS, NEAR_COEFFICIENTS, FLOAT_COEFFICIENTS, SHORT_JOINTS, NEAR_SHORT_JOINTS, SOUND, FLOAT_SOUND, LEVELS, RESTORED, RESTORED_SOUND
+    COEFFICIENTS, NEAR_COEFFICIENTS, FLOAT_COEFFICIENTS, SHORT_JOINTS, NEAR_SHORT_JOINTS, SOUND, FLOAT_SOUND, LEVELS, RESTORED, RESTORED_SOUND,
+    MOVERS
 };
 
 static const struct {
     int32_t **numbers;
     int16_t **sound;
+    uint32_t **movers;
     long apart;
 } expected[] = {
-    [COEFFICIENTS] = {&spectra, NULL, 0},
-    [NEAR_COEFFICIENTS] = {&spectra, NULL, 16},
-    [FLOAT_COEFFICIENTS] = {&spectra, NULL, 64},
-    [SHORT_JOINTS] = {&short_joints, NULL, 0},
-    [NEAR_SHORT_JOINTS] = {&short_joints, NULL, 16},
-    [SOUND] = {NULL, &padded, 0},
-    [FLOAT_SOUND] = {NULL, &padded, 1},
-    [LEVELS] = {&levels, NULL, 0},
-    [RESTORED] = {&restored, NULL, 0},
-    [RESTORED_SOUND] = {NULL, &restored_sound, 0},
+    [COEFFICIENTS] = {&spectra, NULL, NULL, 0},
+    [NEAR_COEFFICIENTS] = {&spectra, NULL, NULL, 16},
+    [FLOAT_COEFFICIENTS] = {&spectra, NULL, NULL, 64},
+    [SHORT_JOINTS] = {&short_joints, NULL, NULL, 0},
+    [NEAR_SHORT_JOINTS] = {&short_joints, NULL, NULL, 16},
+    [SOUND] = {NULL, &padded, NULL, 0},
+    [FLOAT_SOUND] = {NULL, &padded, NULL, 1},
+    [LEVELS] = {&levels, NULL, NULL, 0},
+    [RESTORED] = {&restored, NULL, NULL, 0},
+    [RESTORED_SOUND] = {NULL, &restored_sound, NULL, 0},
+    [MOVERS] = {NULL, NULL, &expected_movers, 0},
 };
 
 struct contender {
@@ -300,6 +320,8 @@ static struct contender contenders[] = {
     ROW(name ", quantise", whose, quantise, LEVELS),                                        \
     ROW(name ", dequantise", whose, dequantise, RESTORED),                                  \
     ROW(name ", step on levels", whose, step_levels, RESTORED_SOUND)
+#define ON_SHARES(name, whose)                                                              \
+    ROW(name ", largest share", whose, largest_share, MOVERS)
 #define PLAIN_ON_LEVELS(variant, options, native)                                                                     \
     {"plain C, quantise, " options, run_##variant##_quantise, plain_offers, LEVELS, native, {0}, {0}},                \
     {"plain C, dequantise, " options, run_##variant##_dequantise, plain_offers, RESTORED, native, {0}, {0}},          \
@@ -338,6 +360,12 @@ static struct contender contenders[] = {
 #endif
     PLAIN_ON_LEVELS(plain_o3, "-O3", 0),
     PLAIN_ON_LEVELS(plain_native, "-O3 -march=native", 1),
+    ON_SHARES("library", library),
+#ifdef BEFORE
+    ON_SHARES("before", before),
+#endif
+    {"plain C, largest share, -O3", run_plain_o3_largest_share, plain_offers, MOVERS, 0, {0}, {0}},
+    {"plain C, largest share, -O3 -march=native", run_plain_native_largest_share, plain_offers, MOVERS, 1, {0}, {0}},
 };
 
 enum { CONTENDERS = sizeof contenders / sizeof contenders[0] };
@@ -401,6 +429,7 @@ static void turn_to(int l)
     levels = all_levels[l];
     restored = all_restored[l];
     restored_sound = all_restored_sound[l];
+    expected_movers = all_movers[l];
     window = windows[l];
 #ifdef HAVE_FFTW
     plan = plans[l];
@@ -413,26 +442,39 @@ static void turn_to(int l)
 #endif
 }
 
+/* What plain C names of the change to each length's levels. */
+static void prepare_movers(void)
+{
+    for (int l = 0; l < LENGTHS; l++) {
+        turn_to(l);
+        run_plain_o3_largest_share(lengths[l], batches[l]);
+        memcpy(expected_movers, movers, sizeof movers);
+    }
+}
+
 /* How far number i of a result is from what is expected. */
 static long off(enum result result, size_t i)
 {
     int16_t **heard = expected[result].sound;
+    if (expected[result].movers)
+        return labs((long)movers[i] - (long)(*expected[result].movers)[i]);
     return labs(heard ? (long)sound[i] - (*heard)[i] : (long)coefficients[i] - (*expected[result].numbers)[i]);
 }
 
 /* Runs a contender's batch once, where it is offered, and holds its result to what is expected. */
 static void verify(struct contender *c, int l)
 {
-    size_t n = lengths[l], m = n / 2, blocks = batches[l];
+    size_t n = lengths[l], m = n / 2, blocks = batches[l], numbers = expected[c->result].movers ? 3 : m;
     int wrong = 0;
     c->offered[l] = c->offers(l);
     if (!c->offered[l])
         return;
     memset(coefficients, 0x55, sizeof coefficients);
     memset(sound, 0x55, sizeof sound);
+    memset(movers, 0x55, sizeof movers);
     refused = 0;
     c->run(n, blocks);
-    for (size_t i = expected[c->result].sound ? m : 0; i < blocks * m; i++)
+    for (size_t i = expected[c->result].sound ? m : 0; i < blocks * numbers; i++)
         wrong |= off(c->result, i) > expected[c->result].apart;
     if (wrong || refused) {
         fprintf(stderr, "bench: %s gives another result at N = %zu\n", c->name, n);
@@ -571,6 +613,8 @@ static void print_ratios(void)
     print_ratio("library, step on levels", "plain C, step on levels, -O3");
     print_ratio("library, step on levels", "plain C, step on levels, -O3 -march=native");
     print_ratio("library, step on levels", "library, step");
+    print_ratio("library, largest share", "plain C, largest share, -O3");
+    print_ratio("library, largest share", "plain C, largest share, -O3 -march=native");
 }
 
 /* The sizes of recordings that are timed, and the calls over them. */
@@ -660,6 +704,7 @@ int main(int argc, char **argv)
 #endif
     plain_o3_init();
     prepare();
+    prepare_movers();
     if (argc > 1 && !strcmp(argv[1], "count")) {
         count_all();
         return 0;

@@ -50,6 +50,19 @@ static uint32_t step_levels(size_t n, size_t blocks, const uint8_t *table, size_
     STEPS(dapplescree_stream_step_levels, 0, table, table_length, levels + b * (n / 2), n / 2)
 }
 
+static uint32_t largest_share(size_t n, size_t blocks, const int32_t *spectra, const int32_t *changed, uint32_t *named)
+{
+    size_t m = n / 2, place = m / 2;
+    uint32_t refused = 0;
+    for (size_t b = 0; b < blocks; b++) {
+        size_t first = b * m, second = b + 1 < blocks ? first + m : 0;
+        refused |= dapplescree_largest_share(n, b & 1, spectra + first, m, changed + first, m, spectra + second, m, changed + second, m, place,
+                                             named + 3 * b, 3);
+        place = place + 1 < m ? place + 1 : 0;
+    }
+    return refused;
+}
+
 static uint32_t recording_direct(size_t n, size_t blocks, const int16_t *padded, int32_t *coefficients)
 {
     size_t m = n / 2, hops = blocks - 1;
@@ -71,5 +84,5 @@ static uint32_t synthesis(size_t n, size_t blocks, const int32_t *spectra, int16
 
 const struct library library = {
     direct, by_short_route, recording_direct, recording_short, step, synthesis, direct_short_joints, by_short_route_short_joints, step_short_joints,
-    quantise, dequantise, step_levels,
+    quantise, dequantise, step_levels, largest_share,
 };

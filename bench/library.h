@@ -21,6 +21,9 @@ struct library {
     uint32_t (*quantise)(size_t, size_t, const uint8_t *, size_t, const int32_t *, int32_t *);
     uint32_t (*dequantise)(size_t, size_t, const uint8_t *, size_t, const int32_t *, int32_t *);
     uint32_t (*step_levels)(size_t, size_t, const uint8_t *, size_t, const int32_t *, int16_t *);
+    /* n, blocks, their coefficients and changed ones, and three numbers for each block: what is named of a sample that it and the next block cover,
+     * the first block being next to the last; the sample's place goes round the hop from its middle on, and the shape of the joint is either in turn */
+    uint32_t (*largest_share)(size_t, size_t, const int32_t *, const int32_t *, uint32_t *);
 };
 
 extern const struct library library;

@@ -272,3 +272,40 @@ uint32_t PLAIN(step_levels)(size_t n, uint32_t left, uint32_t right, const uint8
         PLAIN(step_folded)(n, left, right, tail, coefficients, hop);
     return refused;
 }
+
+/* What is named so far, and its share: a change of up to 2^30 times K and W of up to 2^26 each. */
+struct named {
+    unsigned __int128 share;
+    uint32_t block, coefficient;
+};
+
+/* The same with the shares of one block, whose row of K and whose W these are: a larger one takes the place of the one that is named. */
+INLINE struct named larger(struct named named, uint32_t block, const int32_t *row, int32_t w, size_t m, const int32_t *x, const int32_t *changed)
+{
+    for (size_t k = 0; k < m; k++) {
+        int64_t product = ((int64_t)changed[k] - x[k]) * row[k];
+        unsigned __int128 share = (unsigned __int128)(uint64_t)(product < 0 ? -product : product) * (uint64_t)w;
+        if (share > named.share)
+            named = (struct named){share, block, (uint32_t)k};
+    }
+    return named;
+}
+
+INLINE void largest_share(const struct tables *t, size_t n, uint32_t shape, const int32_t *first, const int32_t *first_changed,
+                          const int32_t *second, const int32_t *second_changed, size_t place, uint32_t *numbers)
+{
+    size_t m = n / 2;
+    const int32_t *window = t->windows + shape * n;
+    struct named named = {0, 0, 0};
+    named = larger(named, 0, t->kernel + (m + place) * m, window[m + place], m, first, first_changed);
+    named = larger(named, 1, t->kernel + place * m, window[place], m, second, second_changed);
+    numbers[0] = named.share != 0;
+    numbers[1] = named.block;
+    numbers[2] = named.coefficient;
+}
+
+void PLAIN(largest_share)(size_t n, uint32_t shape, const int32_t *first, const int32_t *first_changed, const int32_t *second,
+                          const int32_t *second_changed, size_t place, uint32_t *named)
+{
+    BY_LENGTH(largest_share, shape, first, first_changed, second, second_changed, place, named)
+}

@@ -15,7 +15,9 @@
     uint32_t V##_quantise(size_t n, const uint8_t *table, size_t table_length, const int32_t *coefficients, int32_t *levels);   \
     uint32_t V##_dequantise(size_t n, const uint8_t *table, size_t table_length, const int32_t *levels, int32_t *coefficients); \
     uint32_t V##_step_levels(size_t n, uint32_t left, uint32_t right, const uint8_t *table, size_t table_length, int64_t *tail, \
-                             const int32_t *levels, int16_t *hop);
+                             const int32_t *levels, int16_t *hop);                                                              \
+    void V##_largest_share(size_t n, uint32_t shape, const int32_t *first, const int32_t *first_changed, const int32_t *second, \
+                           const int32_t *second_changed, size_t place, uint32_t *named);
 
 PLAIN_CALLS(plain_o3)
 PLAIN_CALLS(plain_native)

@@ -15,7 +15,7 @@ static int16_t samples[BLOCKS * MOST_M], sound[HOPS * MOST_M];
 static int32_t spectra[BLOCKS * MOST_M], coefficients[BLOCKS * MOST_M];
 static int64_t state[DAPPLESCREE_STATE];
 static uint8_t page[DAPPLESCREE_PAGE(MOST_N, HOPS)], table[TABLE_ROOM];
-static uint32_t distance[1];
+static uint32_t distance[1], named[3];
 
 static size_t n, m, table_length;
 static uint32_t left, right;
@@ -97,6 +97,12 @@ static uint32_t told_distance(void)
     return dapplescree_told_distance(n, 0, table, table_length, distance, 1);
 }
 
+/* of the hop's last sample, between blocks that change in every coefficient */
+static uint32_t largest_share(void)
+{
+    return dapplescree_largest_share(n, left, spectra, m, spectra + m, m, spectra + 2 * m, m, spectra + 3 * m, m, m - 1, named, 3);
+}
+
 static const struct call {
     const char *name;
     uint32_t (*run)(void);
@@ -113,6 +119,7 @@ static const struct call {
     {"dequantise", dequantise},
     {"told distance", told_distance},
     {"step on levels", step_levels},
+    {"largest share", largest_share},
 };
 
 enum { CALLS = sizeof calls / sizeof calls[0] };

@@ -1,4 +1,5 @@
 //! The library held against the reference, call by call.
+mod shares;
 mod steps;
 
 use crate::inputs::*;
@@ -797,6 +798,7 @@ pub fn run(bank: Bank, seed: u64) -> u64 {
         compare.pages(n);
         compare.round_trips(n);
         compare.step_tables(n);
+        compare.shares(n);
     }
     compare.calls
 }

@@ -1,5 +1,5 @@
 //! The calls of include/dapplescree.h, each in a safe function over slices.
-use crate::reference::{Route, Shapes};
+use crate::reference::{Changes, Route, Shapes};
 
 extern "C" {
     fn dapplescree_analyse_direct(n: usize, left: u32, right: u32, x: *const i16, x_length: usize, out: *mut i32, out_length: usize) -> u32;
@@ -73,6 +73,21 @@ extern "C" {
         hop: *mut i16,
         hop_length: usize,
     ) -> u32;
+    fn dapplescree_largest_share(
+        n: usize,
+        shape: u32,
+        first: *const i32,
+        first_length: usize,
+        first_changed: *const i32,
+        first_changed_length: usize,
+        second: *const i32,
+        second_length: usize,
+        second_changed: *const i32,
+        second_changed_length: usize,
+        place: usize,
+        named: *mut u32,
+        named_length: usize,
+    ) -> u32;
 }
 
 // Each pointer and length below come from one slice, and slices lent by & and &mut do not overlap.
@@ -126,4 +141,10 @@ pub fn stream_step_levels(state: &mut [i64], number: u32, (left, right): Shapes,
     let (state, length) = (state.as_mut_ptr(), state.len());
     let (lines, bytes, hop, samples) = (table.as_ptr(), table.len(), out.as_mut_ptr(), out.len());
     unsafe { dapplescree_stream_step_levels(state, length, number, left, right, lines, bytes, levels.as_ptr(), levels.len(), hop, samples) }
+}
+
+pub fn largest_share(n: usize, shape: u32, [a, b, c, d]: Changes, place: usize, named: &mut [u32]) -> u32 {
+    let (room, numbers) = (named.as_mut_ptr(), named.len());
+    let ([a, b, c, d], lengths) = ([a, b, c, d].map(<[i32]>::as_ptr), [a, b, c, d].map(<[i32]>::len));
+    unsafe { dapplescree_largest_share(n, shape, a, lengths[0], b, lengths[1], c, lengths[2], d, lengths[3], place, room, numbers) }
 }

@@ -1,4 +1,4 @@
-//! Document 01, with P1, P2 and P4 to P8 of document 02, written out anew: exact series, naive sums, rounding by size. It shares no table with any other file.
+//! Document 01, with P1, P2 and P4 to P9 of document 02, written out anew: exact series, naive sums, rounding by size. It shares no table with any other file.
 
 /// A natural number of any size, in base 2^64, lowest digit first.
 #[derive(Clone)]
@@ -121,6 +121,9 @@ pub enum Route {
 pub type Shapes = (u32, u32);
 pub const LONG: u32 = 0;
 pub const SHORT: u32 = 1;
+
+/// The original coefficients of the earlier of two blocks and the changed ones, and those of the later block.
+pub type Changes<'a> = [&'a [i32]; 4];
 
 /// rnd(a/b), an exact half going away from zero: by size, the floor of (|a| + b/2)/b, with the sign of a.
 pub fn rnd(a: i128, b: i128) -> i128 {
@@ -393,6 +396,40 @@ impl Bank {
             return 2;
         }
         out[0] = distance(route, &steps);
+        0
+    }
+
+    /// The shares of the sample at this place of the hop that two blocks cover, those of the earlier block first: each coefficient's change times K
+    /// times W there, without its sign.
+    pub fn shares(&self, n: usize, shape: u32, changes: Changes, place: usize) -> Vec<i128> {
+        let m = n / 2;
+        let [first, first_changed, second, second_changed] = changes;
+        let change = |x: &[i32], changed: &[i32], k: usize| i128::from(changed[k]) - i128::from(x[k]);
+        // the joint is the earlier block's right one and the later block's left one
+        let (falling, rising) = (self.w(n, (LONG, shape), m + place), self.w(n, (shape, LONG), place));
+        let earlier = (0..m).map(|k| change(first, first_changed, k) * self.k(n, m + place, k) * falling);
+        let later = (0..m).map(|k| change(second, second_changed, k) * self.k(n, place, k) * rising);
+        earlier.chain(later).map(i128::abs).collect()
+    }
+
+    pub fn largest_share(&self, n: usize, shape: u32, changes: Changes, place: usize, named: &mut [u32]) -> u32 {
+        if !tabled(n) {
+            return 1;
+        }
+        if !shaped((shape, shape)) {
+            return 8;
+        }
+        let m = n / 2;
+        if changes.iter().any(|x| x.len() != m) || place >= m || named.len() != 3 {
+            return 2;
+        }
+        if changes.into_iter().any(beyond) {
+            return 3;
+        }
+        let shares = self.shares(n, shape, changes, place);
+        // the first of the largest, by block and then by coefficient
+        let first = (0..2 * m).rev().max_by_key(|&at| shares[at]).expect("a block has coefficients");
+        named.copy_from_slice(&if shares[first] == 0 { [0; 3] } else { [1, (first / m) as u32, (first % m) as u32] });
         0
     }
 

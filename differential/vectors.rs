@@ -65,7 +65,7 @@ fn holds(bank: &Bank, line: &str) -> bool {
             agrees(length, code, out, |b| bank.synthesise_recording(number(n), number(hops), &list(x), b))
         }
         ["page", n, hops, x, length, code, out] => agrees(length, code, out, |b| bank.page(number(n), number(hops), &list(x), b)),
-        _ => steps_hold(bank, &fields),
+        _ => steps_hold(bank, &fields) || share_holds(bank, &fields),
     }
 }
 
@@ -88,6 +88,16 @@ fn steps_hold(bank: &Bank, fields: &[&str]) -> bool {
         }
         _ => false,
     }
+}
+
+/// The same of the call on shares.
+fn share_holds(bank: &Bank, fields: &[&str]) -> bool {
+    let ["largest_share", n, shape, first, first_changed, second, second_changed, place, length, code, out] = *fields else {
+        return false;
+    };
+    let lists: [Vec<i32>; 4] = [first, first_changed, second, second_changed].map(list);
+    let changes = lists.each_ref().map(Vec::as_slice);
+    agrees(length, code, out, |b| bank.largest_share(number(n), number(shape), changes, number(place), b))
 }
 
 /// Reads the lines of standard input; the number of lines that hold, or the first that does not.

@@ -42,7 +42,7 @@
  *
  *   0  taken
  *   1  n is not tabled, or is a length at which the short route, where it is asked for, is not offered; or a route is above 1
- *   2  a length differs from the stated one, or hops is not 1 to 4095
+ *   2  a length differs from the stated one, or hops is not 1 to 4095, or a place is outside its hop
  *   3  a coefficient is below -536870912 or above 536870912
  *   4  the state's entry 0 is not tabled, or one of its first M tail entries lies beyond plus or minus M * 2^55
  *   7  a block's number is not the one that the state expects
@@ -58,11 +58,12 @@
  * n = 108 and below 18 KiB for n = 216; of a step on levels 1 KiB more.
  *
  * These are promises for every value of every argument, under what C cannot check: each pointer is not null, also where its length is 0, is
- * aligned, and points to as many entries as the length that follows it says; the buffers of one call do not overlap; nothing else writes to
- * them, or reads what is being written, until the call returns. A size is without a sign: a negative number handed in for one arrives as a
- * huge size, and is refused as such. A block's number, a shape and a route have 32 bits: of a wider one its low 32 bits arrive. The numbers
- * returned, and what each buffer then holds, are the contracts of crates/c_face/src/lib.rt, which are proved; what is said of chains of states, of
- * levels there and back, of the distance of returned sound and of reading a page are theorems of crates/demands over the same definitions.
+ * aligned, and points to as many entries as the length that follows it says; a buffer that a call writes overlaps no other of the same call,
+ * while those that it only reads may be one and the same; nothing else writes to them, or reads what is being written, until the call returns. A
+ * size is without a sign: a negative number handed in for one arrives as a huge size, and is refused as such. A block's number, a shape and a
+ * route have 32 bits: of a wider one its low 32 bits arrive. The numbers returned, and what each buffer then holds, are the contracts of
+ * crates/c_face/src/lib.rt, which are proved; what is said of chains of states, of levels there and back, of the distance of returned sound, of
+ * reading a page and of shares are theorems of crates/demands over the same definitions.
  */
 #ifndef DAPPLESCREE_H
 #define DAPPLESCREE_H
@@ -236,6 +237,25 @@ uint32_t dapplescree_told_distance(size_t n, uint32_t route, const uint8_t *tabl
  */
 uint32_t dapplescree_stream_step_levels(int64_t *state, size_t state_length, uint32_t number, uint32_t left, uint32_t right,
     const uint8_t *table, size_t table_length, const int32_t *levels, size_t levels_length, int16_t *hop, size_t hop_length);
+
+/* Which coefficient moved a returned sample. A sample lies in two blocks. `first` and `second` are the coefficients of the earlier and of the later
+ * one as analysis gave them, first_changed and second_changed the ones from which the sample was made, `shape` is the shape of the joint between
+ * the two blocks, and `place` says which sample of the hop it is, from 0 to M - 1. named is an array of three entries.
+ *   1  n is not tabled
+ *   8  shape is above 1
+ *   2  first_length, first_changed_length, second_length or second_changed_length is not M, or place is M or more, or named_length is not 3
+ *   3  a coefficient is beyond its limit, in whichever of the four
+ *   0  named[0] is 1 where a share is not zero, and then the share of coefficient named[2] of block named[1], 0 the earlier and 1 the later, is the
+ *      largest; where all shares are zero, the three entries are 0
+ * A share is, without its sign, the change of a coefficient times K times W at the sample: coefficient k of the earlier block has K(M + place, k)
+ * and its W(M + place), coefficient k of the later one has K(place, k) and its W(place). Shares are compared exactly. No other is larger than the one
+ * that is named, and of equal ones the earlier block's is named, then the lower coefficient's. K is never 0. W is 0 for the later block in the first
+ * third of a hop whose joint is short, and for the earlier block in the last third. Where all shares are zero, the sample is the same from the
+ * original and from the changed coefficients, whatever the stream held before the earlier block.
+ */
+uint32_t dapplescree_largest_share(size_t n, uint32_t shape, const int32_t *first, size_t first_length, const int32_t *first_changed,
+    size_t first_changed_length, const int32_t *second, size_t second_length, const int32_t *second_changed, size_t second_changed_length,
+    size_t place, uint32_t *named, size_t named_length);
 
 #ifdef __cplusplus
 }

@@ -1,5 +1,5 @@
-"""Document 01, with P1, P2 and P4 to P7 of document 02, in exact whole numbers, as plainly as they are written: with steps.py, which has P8, the
-source of every stored output. It shares no table, folding or rounding with the crates."""
+"""Document 01, with P1, P2 and P4 to P7 of document 02, in exact whole numbers, as plainly as they are written: with steps.py, which has P8, and shares.py,
+which has P9, the source of every stored output. It shares no table, folding or rounding with the crates."""
 from fractions import Fraction
 from functools import cache
 from math import factorial, floor

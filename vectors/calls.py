@@ -5,6 +5,7 @@ import sys
 from itertools import product
 
 import bank
+import shares
 import steps
 from bank import COEFFICIENT_LIMIT, HOPS, LENGTHS, ROUTES, SHAPES, SHORT_LENGTHS, STATE, STORAGE, page_length, tail_limit
 
@@ -153,6 +154,34 @@ def stepped_levels(before, M):
     return answer[2]
 
 
+def near_place(place, M):
+    """A place of a hop of M samples, or a number that is none."""
+    return rng.choice([place] * 24 + [0, M - 1, M, M + 1, 2 * M - 1, 2**32 + place, 2**63, 2**64 - 1])
+
+
+def changed(x):
+    """The same but for a few coefficients, or others, or the same."""
+    kind = rng.randrange(4)
+    if kind == 0:
+        return coefficients(len(x))
+    few = set(rng.sample(range(len(x)), min(len(x), (0, 1, 3)[kind - 1])))
+    return [c if k not in few else rng.choice([COEFFICIENT_LIMIT, -COEFFICIENT_LIMIT, -c, c // 2]) for k, c in enumerate(x)]
+
+
+def shared(N, n):
+    """Prints a call on shares."""
+    M = N // 2
+    lists = [y for x in (coefficients(M), coefficients(M)) for y in (x, changed(x))]
+    at = rng.randrange(4)
+    if rng.randrange(6) == 0:
+        lists[at] = spoil(lists[at][:])
+    at = rng.randrange(4)
+    if rng.randrange(3) == 0:
+        lists[at] = (2 * lists[at])[: near(M)]
+    shape, place, length = near_shape(rng.choice(SHAPES)), near_place(rng.randrange(M), M), near(3)
+    line("largest_share", n, shape, *lists, place, length, *shares.name_share(n, shape, *lists, place, length))
+
+
 for t in range(-1200, 3000):
     line("C", t, bank.C(t))
 for N in LENGTHS:
@@ -204,3 +233,4 @@ for _ in range(rounds):
         for _ in range(6):
             step_tables(N, n)
             stepped_levels(stepped_levels(state(N), M), M)
+            shared(N, n)

@@ -1,4 +1,4 @@
-"""Numbers at random, as the program check_levels makes them too (report::noise)."""
+"""Numbers at random, as the programs check_levels and check_shares make them too (report::noise)."""
 
 # room for the coefficients of a block, and for buffers that are too long
 ROOM = 112

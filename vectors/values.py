@@ -1,5 +1,5 @@
 """Writes what crates/check_values must print: python3 vectors/values.py > crates/check_values/stdout"""
-from bank import LENGTHS, SHORT_LENGTHS, C, K, L, W, clamp, rnd
+from bank import LENGTHS, SHAPES, SHORT_LENGTHS, C, K, L, W, clamp, falling, rising, rnd
 
 
 
@@ -38,6 +38,9 @@ for N in LENGTHS:
     for a in [a for a in SUMS if abs(a) <= N * 2**55]:
         line("scale", N, a, clamp(rnd(a, N * 2**30)))
     line("W", *[W(N, n) for n in range(N)])
+    for shape in SHAPES:
+        line("rise", shape, *rising(shape, N))
+        line("fall", shape, *falling(shape, N))
     for n in range(N):
         line("K", *[K(N, n, k) for k in range(N // 2)])
     if N in SHORT_LENGTHS:

@@ -6,6 +6,7 @@ ghost use Rattle.block_calls.specs.Analysis.{analyseCode, analyseOut};
 ghost use Rattle.recording_calls.specs.Recordings.{recordedCode, recordedOut, playedCode, playedOut};
 ghost use Rattle.page.specs.Page.{pageCode, pageOut};
 ghost use Rattle.level_calls.specs.LevelCalls.{quantiseCode, quantiseOut, dequantiseCode, dequantiseOut, tellNumber, tellNumberOut, stateCode, stateAfter, stateOut};
+ghost use Rattle.share_calls.specs.ShareCalls.{nameCode, nameOut};
 ghost use Rattle.state_calls.specs.States.{freshCode, freshState, stepCode, stepState, stepOut};
 use analysis::Route;
 
@@ -179,4 +180,31 @@ pub extern "C" fn dapplescree_stream_step_levels(
     ensures { λ _. ⌜ now (hop .exit) ≡ stateOut (now (state .entry)) number left right (now (table .entry)) (now (levels .entry)) (now (hop .entry)) ⌝ }
 {
     filter_bank::step_levels_in_place(state, number, left, right, table, levels, hop)
+}
+
+// The coefficient with the largest share of what moved a sample: `filter_bank::name_share`.
+#[no_mangle]
+pub extern "C" fn dapplescree_largest_share(
+    n: usize,
+    shape: u32,
+    first: &[i32],
+    first_changed: &[i32],
+    second: &[i32],
+    second_changed: &[i32],
+    place: usize,
+    named: &mut [u32],
+) -> u32
+    ensures { λ r. ⌜ r ≡ nameCode n shape (now (first .entry)) (now («first_changed» .entry)) (now (second .entry)) (now («second_changed» .entry)) place (now (named .entry)) ⌝ }
+    ensures { λ _. ⌜ now (named .exit) ≡ nameOut n shape (now (first .entry)) (now («first_changed» .entry)) (now (second .entry)) (now («second_changed» .entry)) place (now (named .entry)) ⌝ }
+{
+    filter_bank::name_share(
+        n,
+        shape,
+        first,
+        first_changed,
+        second,
+        second_changed,
+        place,
+        named,
+    )
 }

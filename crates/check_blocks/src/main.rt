@@ -114,9 +114,10 @@ fn impulse(i: usize, v: i16) -> [i16; ROOM]
 fn driven(n: usize, k: usize, low: i16, high: i16) -> [i16; ROOM]
     requires { ⌜ T (tabled n) × (n ≤ 216) × (k < n / 2) ⌝ }
 {
+    let cos = cosine::quarter_turn();
     let mut x = [0; ROOM];
     for i in 0..n {
-        x[i] = if cosine::kernel(n, i, k) > 0 {
+        x[i] = if cosine::kernel(&cos, n, i, k) > 0 {
             high
         } else {
             low

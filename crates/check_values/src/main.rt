@@ -163,10 +163,11 @@ fn clamps() {
 }
 
 fn cosines() {
+    let cos = cosine::quarter_turn();
     for t in 0..1800 {
         report::word(b"C");
         report::count(t);
-        report::field(cosine::cosine(t));
+        report::field(cosine::cosine(&cos, t));
         report::end();
     }
 }
@@ -174,19 +175,55 @@ fn cosines() {
 fn windows(n: usize)
     requires { ⌜ T (tabled n) ⌝ }
 {
+    let cos = cosine::quarter_turn();
     report::word(b"W");
     for i in 0..n {
-        report::field(cosine::window(n, i));
+        report::field(cosine::window(&cos, n, i));
     }
     report::end();
+}
+
+fn rise(n: usize, shape: u32)
+    requires { ⌜ T (tabled n) ⌝ }
+{
+    let cos = cosine::quarter_turn();
+    report::word(b"rise");
+    report::count(shape as usize);
+    for i in 0..n / 2 {
+        report::field(cosine::rising(&cos, shape, n, i));
+    }
+    report::end();
+}
+
+fn fall(n: usize, shape: u32)
+    requires { ⌜ T (tabled n) ⌝ }
+{
+    let cos = cosine::quarter_turn();
+    report::word(b"fall");
+    report::count(shape as usize);
+    for i in 0..n / 2 {
+        report::field(cosine::falling(&cos, shape, n, i));
+    }
+    report::end();
+}
+
+// The two halves of a joint of either shape.
+fn halves(n: usize)
+    requires { ⌜ T (tabled n) ⌝ }
+{
+    rise(n, 0);
+    fall(n, 0);
+    rise(n, 1);
+    fall(n, 1);
 }
 
 fn kernel_row(n: usize, i: usize)
     requires { ⌜ T (tabled n) × (i < n) ⌝ }
 {
+    let cos = cosine::quarter_turn();
     report::word(b"K");
     for k in 0..n / 2 {
-        report::field(cosine::kernel(n, i, k));
+        report::field(cosine::kernel(&cos, n, i, k));
     }
     report::end();
 }
@@ -202,9 +239,10 @@ fn kernels(n: usize)
 fn short_row(n: usize, i: usize)
     requires { ⌜ T (tabled n) × (i < n / 3) ⌝ }
 {
+    let cos = cosine::quarter_turn();
     report::word(b"L");
     for k in 0..n / 6 {
-        report::field(cosine::short_kernel(n, i, k));
+        report::field(cosine::short_kernel(&cos, n, i, k));
     }
     report::end();
 }
@@ -222,6 +260,7 @@ fn length(n: usize)
 {
     scales(n);
     windows(n);
+    halves(n);
     kernels(n);
 }
 

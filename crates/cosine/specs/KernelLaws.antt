@@ -4,6 +4,7 @@ use mathlib.Core.Bool.{Bool, true, false, cond}
 use Prim.Native.Nat.{ℕ, _+_, _-_, _*_, _/_, _^_, _≤_, _<_}
 use native.Mathlib.Nat.{mul-le-mul-left, div-mul-le-self}
 use native.Mathlib.Omega.{arith}
+use borrow.Author.Tests.{lt-ltb, le-ltb}
 use lib.Dec.{eqb, ltb, ltb→lt}
 use lib.IntN.{pos, negℤ, natAbs, _-ℤ_, _*ℤ_}
 use lib.Signed.{_≤ℤ_, leZ-yes}
@@ -55,6 +56,33 @@ F-size N j k = C-size (pos (d N * (2 * j + 1) * (2 * k + 1)))
 pub L-size : (N n k : ℕ) → natAbs (L N n k) ≤ 2 ^ 26
 unfolding L
 L-size N n k = C-size (pos (3 * d N * (2 * n + 1 + N / 6) * (2 * k + 1)))
+
+-- ---- the three parts of a short rising half, its rise going in steps of 3d
+module _ (N n : ℕ) where
+  pub short-zero : n < N / 6 → shortRise N n ≡ pos 0
+  unfolding shortRise
+  short-zero h = rw (lt-ltb n (N / 6) h)
+
+  pub short-one : 2 * (N / 6) ≤ n → shortRise N n ≡ pos (2 ^ 26)
+  unfolding shortRise
+  short-one h = let g : N / 6 ≤ n = omega arith in rw (le-ltb n (N / 6) g, le-ltb n (2 * (N / 6)) h)
+
+  module _ (steps : eighth / (N / 6) ≡ 3 * d N) where
+    pub short-angle : n < 2 * (N / 6) → 3 * d N * (2 * (n - N / 6) + 1) ≤ quarter
+    short-angle h =
+        let p : 2 * (n - N / 6) + 1 ≤ 2 * (N / 6) = omega arith in
+        let q : 3 * d N * (N / 6) ≤ eighth = rw steps at (div-mul-le-self eighth (N / 6)) in
+        go (3 * d N) (N / 6) (2 * (n - N / 6) + 1) p q
+      where
+        go : (e R b : ℕ) → b ≤ 2 * R → e * R ≤ eighth → e * b ≤ quarter
+        go e R b p q = omega (arith, mul-le-mul-left e p)
+
+    pub short-middle : N / 6 ≤ n → n < 2 * (N / 6) → shortRise N n ≡ C (pos (quarter - 3 * d N * (2 * (n - N / 6) + 1)))
+    unfolding shortRise
+    short-middle g h = rw (le-ltb n (N / 6) g, lt-ltb n (2 * (N / 6)) h, steps) (ap C (arg (3 * d N * (2 * (n - N / 6) + 1)) (short-angle h)))
+      where
+        arg : (b : ℕ) → b ≤ quarter → pos quarter -ℤ pos b ≡ pos (quarter - b)
+        arg b h = simp posints (omega arith)
 
 -- ---- the folded kernel is symmetric
 pub F-symmetric : (N j k : ℕ) → F N j k ≡ F N k j

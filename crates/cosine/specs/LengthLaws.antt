@@ -11,7 +11,7 @@ use mir.Val.{Fits}
 use Rattle.arithmetic.specs.Lists.{every}
 use Rattle.arithmetic.specs.TestLaws.{both-left, both-right}
 use Rattle.arithmetic.specs.QuotientLaws.{quarters, splits}
-use Rattle.cosine.specs.Cosine.{quarter}
+use Rattle.cosine.specs.Cosine.{quarter, eighth}
 use Rattle.cosine.specs.Kernels.{lengths, tabled, shortLengths, shortTabled, d}
 
 -- a test of every number of a list holds of one that is listed there
@@ -124,6 +124,18 @@ splits-test = tt
 
 pub splits-of : (N : ℕ) → T (tabled N) → T (splits N)
 splits-of = of-tabled splits splits-test
+
+-- a short joint's rise goes in steps of 3d: 108 / R, with R = M/3
+rising-parts : ℕ → Bool
+rising-parts N = eqb (eighth / (N / 6)) (3 * d N)
+
+rise-test : T (every rising-parts lengths)
+unfolding every rising-parts lengths
+rise-test = tt
+
+pub rise-parts : (N : ℕ) → T (tabled N) → eighth / (N / 6) ≡ 3 * d N
+unfolding rising-parts
+rise-parts N h = eqb→eq (eighth / (N / 6)) (3 * d N) (of-tabled rising-parts rise-test N h)
 
 -- ---- what the kernel's laws ask of a length: four parts of it, and d of its parts make a quarter turn. A tabled length has it, and its third
 pub record Part (P : ℕ) : Type 0 where

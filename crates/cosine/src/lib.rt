@@ -1,12 +1,13 @@
 // The cosine table, the window and the kernels, read at any place. The facts about them are in specs/.
-// No function here is a public call: the public calls and `listing` call `is_tabled`. The others are read by test programs only: the bank lends the
-// tables of `tables`, which are proved from the same definitions.
+// No function here is a public call: the public calls and `listing` call `is_tabled`. The others are read by `shares` and by test programs: the bank lends the
+// tables of `tables`, which are proved from the same definitions. Who reads the table is lent it: a const that is read in place is copied at each access.
 ghost use mathlib.Core.Path.{_≡_};
 ghost use Prim.Native.Nat.{_≤_, _<_, _*_, _/_};
 ghost use lib.Dec.{T};
 ghost use lib.IntN.{pos};
 ghost use Rattle.cosine.specs.Cosine.{quarter, firstQuarter, C};
-ghost use Rattle.cosine.specs.Kernels.{tabled, d, W, K, L};
+ghost use Rattle.cosine.specs.TableLaws.{numbers};
+ghost use Rattle.cosine.specs.Kernels.{tabled, d, W, shortRise, rising, falling, K, L};
 
 // The parts that a turn is cut in, and the parts of it that the table, the window and the kernels need.
 const TURN: usize = 864;
@@ -258,29 +259,38 @@ pub fn is_tabled(n: usize) -> bool
     n == 216
 }
 
-// C on the first quarter of the turn, from the table.
-fn first_quarter(t: usize) -> i64
+// C(0) .. C(216), to be lent.
+pub fn quarter_turn() -> [i32; 217]
+    ensures { λ r. ⌜ r ≡ numbers ⌝ }
+{
+    COS
+}
+
+// C on the first quarter of the turn.
+fn first_quarter(cos: &[i32; 217], t: usize) -> i64
+    requires { ⌜ now cos ≡ numbers ⌝ }
     requires { ⌜ t ≤ quarter ⌝ }
     ensures { λ r. ⌜ r ≡ firstQuarter t ⌝ }
 {
-    COS[t] as i64
+    cos[t] as i64
 }
 
 // C(t) for every t from 0. A negative angle is handed in with a turn added.
-pub fn cosine(t: usize) -> i64
+pub fn cosine(cos: &[i32; 217], t: usize) -> i64
+    requires { ⌜ now cos ≡ numbers ⌝ }
     ensures { λ r. ⌜ r ≡ C (pos t) ⌝ }
 {
     let r = t % TURN;
     if r <= QUARTER {
-        return first_quarter(r);
+        return first_quarter(cos, r);
     }
     if r <= HALF_TURN {
-        return -first_quarter(HALF_TURN - r);
+        return -first_quarter(cos, HALF_TURN - r);
     }
     if r < HALF_TURN + QUARTER {
-        return -first_quarter(r - HALF_TURN);
+        return -first_quarter(cos, r - HALF_TURN);
     }
-    first_quarter(TURN - r)
+    first_quarter(cos, TURN - r)
 }
 
 // d = 216/N of a tabled N, without a division.
@@ -307,28 +317,69 @@ fn parts(n: usize) -> usize
 }
 
 // The window W(i). Its angle d × (N - 2i - 1) is a quarter less d × (2i + 1): with a turn added it is not negative.
-pub fn window(n: usize, i: usize) -> i64
+pub fn window(cos: &[i32; 217], n: usize, i: usize) -> i64
+    requires { ⌜ now cos ≡ numbers ⌝ }
     requires { ⌜ T (tabled n) × (i < n) ⌝ }
     ensures { λ r. ⌜ r ≡ W n i ⌝ }
 {
     let d = parts(n);
-    cosine(TURN + QUARTER - d * (2 * i + 1))
+    cosine(cos, TURN + QUARTER - d * (2 * i + 1))
+}
+
+// Entry i of a short rising half. Its rise has R = M/3 entries, and 108/R is 3d.
+fn short_rise(cos: &[i32; 217], n: usize, i: usize) -> i64
+    requires { ⌜ now cos ≡ numbers ⌝ }
+    requires { ⌜ T (tabled n) × (i < n / 2) ⌝ }
+    ensures { λ r. ⌜ r ≡ shortRise n i ⌝ }
+{
+    let third = n / 6;
+    if i < third {
+        return 0;
+    }
+    if i < 2 * third {
+        let d = parts(n);
+        return cosine(cos, QUARTER - 3 * d * (2 * (i - third) + 1));
+    }
+    67108864
+}
+
+// Entry i of the rising half of a joint of this shape.
+pub fn rising(cos: &[i32; 217], shape: u32, n: usize, i: usize) -> i64
+    requires { ⌜ now cos ≡ numbers ⌝ }
+    requires { ⌜ T (tabled n) × (i < n / 2) ⌝ }
+    ensures { λ r. ⌜ r ≡ rising shape n i ⌝ }
+{
+    if shape == 0 {
+        return window(cos, n, i);
+    }
+    short_rise(cos, n, i)
+}
+
+// Entry i of the falling half, which is its mirror.
+pub fn falling(cos: &[i32; 217], shape: u32, n: usize, i: usize) -> i64
+    requires { ⌜ now cos ≡ numbers ⌝ }
+    requires { ⌜ T (tabled n) × (i < n / 2) ⌝ }
+    ensures { λ r. ⌜ r ≡ falling shape n i ⌝ }
+{
+    rising(cos, shape, n, n / 2 - 1 - i)
 }
 
 // The kernel K(i,k).
-pub fn kernel(n: usize, i: usize, k: usize) -> i64
+pub fn kernel(cos: &[i32; 217], n: usize, i: usize, k: usize) -> i64
+    requires { ⌜ now cos ≡ numbers ⌝ }
     requires { ⌜ T (tabled n) × (i < n) × (k < n / 2) ⌝ }
     ensures { λ r. ⌜ r ≡ K n i k ⌝ }
 {
     let d = parts(n);
-    cosine(d * (2 * i + 1 + n / 2) * (2 * k + 1))
+    cosine(cos, d * (2 * i + 1 + n / 2) * (2 * k + 1))
 }
 
 // The short kernel L(i,k).
-pub fn short_kernel(n: usize, i: usize, k: usize) -> i64
+pub fn short_kernel(cos: &[i32; 217], n: usize, i: usize, k: usize) -> i64
+    requires { ⌜ now cos ≡ numbers ⌝ }
     requires { ⌜ T (tabled n) × (i < n / 3) × (k < n / 6) ⌝ }
     ensures { λ r. ⌜ r ≡ L n i k ⌝ }
 {
     let d = parts(n);
-    cosine(3 * d * (2 * i + 1 + n / 6) * (2 * k + 1))
+    cosine(cos, 3 * d * (2 * i + 1 + n / 6) * (2 * k + 1))
 }

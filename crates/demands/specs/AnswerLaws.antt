@@ -34,6 +34,7 @@ use Rattle.state_calls.specs.StateLaws.{fresh-holds, fresh-long, same-code, sam
 use Rattle.demands.specs.ListingAnswerLaws.{listing-answers}
 use Rattle.demands.specs.TableAnswerLaws.{table-answers}
 use Rattle.demands.specs.LevelAnswerLaws.{quantise-answers, dequantise-answers, told-answers, tell-answers, report-answers, step-levels-answers, state-levels-answers, last-number}
+use Rattle.demands.specs.ShareLaws.{share-answers, name-answers}
 use Rattle.demands.specs.StepLaws.{code-other, refused-stream, refused-buffer}
 use Rattle.demands.specs.CauseTestLaws.{counts, counts-not, ranges, ranges-not, sounds, sounds-not-n, sounds-not-tail, shapes-true, shapes-false, fits-true, fits-not, fits-other, fits-forged, negative, no-length-0, shape-negative, shape-large}
 use Rattle.demands.specs.Answers.{Tabled, SoundTail, Fitting, AnalyseAnswers, FreshAnswers, StepAnswers, RecordedAnswers, PlayedAnswers, InnerAnswers, PageAnswers, StateFreshAnswers, StateStepAnswers}
@@ -236,4 +237,6 @@ demand-1 = record {
   reported = report-answers;
   stepped-levels = step-levels-answers;
   state-stepped-levels = state-levels-answers;
+  shared = share-answers;
+  shared-in = name-answers;
 }

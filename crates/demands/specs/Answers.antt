@@ -1,6 +1,7 @@
 -- What each public call answers, in words of its input: demand 1, call by call. `Demand-1` of Demands gathers them.
 use mathlib.Core.Path.{_≡_}
 use mathlib.Core.Logic.{_≢_}
+use mathlib.Core.Bool.{cond}
 use mathlib.Core.List.{List, [], _∷_}
 use Prim.Native.Nat.{ℕ, zero, suc, _+_, _*_, _/_, _^_, _≤_, _<_}
 use lib.Dec.{T}
@@ -26,6 +27,8 @@ use Rattle.level_calls.specs.LevelCalls as L
 use Rattle.level_calls.specs.LevelCalls.{quantiseCode, quantiseOut, dequantiseCode, dequantiseOut, told, tellNumber, tellNumberOut, stepLevels}
 use Rattle.table_report.specs.Report as R
 use Rattle.table_report.specs.Report.{takenLines, reportOf}
+use Rattle.shares.specs.Shares.{largestShare}
+use Rattle.share_calls.specs.ShareCalls.{answeredWith, refusedWith, shareAnswer, nameCode, nameOut}
 use Rattle.text.specs.Number.{isNumber, value}
 use Rattle.text.specs.Lines.{lines, remainder}
 use Rattle.page.specs.Page.{pageCode, pageOut}
@@ -273,6 +276,42 @@ pub record ReportAnswers (number text : List ℕ) : Type 0 where
   pub one : ((N : ℕ) → ¬ Typed number N) → reportOf number text ≡ R.refusal 1 0
   pub table-own : (N : ℕ) → Typed number N → ¬ Ruled N text → reportOf number text ≡ R.refusal (verdict (N / 2) text .code) (verdict (N / 2) text .line)
   pub taken : (N : ℕ) → Typed number N → Ruled N text → reportOf number text ≡ takenLines N text
+
+-- ---- shares (P9): the lengths and the place that `largest_share` asks for
+pub record Sized (N : ℕ) (first first′ second second′ : List ℤ) (place : ℕ) : Type 0 where
+  pub first-is : length first ≡ N / 2
+  pub first-changed-is : length first′ ≡ N / 2
+  pub second-is : length second ≡ N / 2
+  pub second-changed-is : length second′ ≡ N / 2
+  pub place-is : place < N / 2
+
+-- each coefficient of the four is in range
+pub record InRanges (first first′ second second′ : List ℤ) : Type 0 where
+  pub first-is : InRange first
+  pub first-changed-is : InRange first′
+  pub second-is : InRange second
+  pub second-changed-is : InRange second′
+
+-- `largest_share`: beside a refusal all else is 0
+pub record ShareAnswers (N shape : ℕ) (first first′ second second′ : List ℤ) (place : ℕ) : Type 0 where
+  pub one : ¬ Tabled N → shareAnswer N shape first first′ second second′ place ≡ refusedWith 1
+  pub eight : Tabled N → 1 < shape → shareAnswer N shape first first′ second second′ place ≡ refusedWith 8
+  pub two : Tabled N → shape ≤ 1 → ¬ Sized N first first′ second second′ place → shareAnswer N shape first first′ second second′ place ≡ refusedWith 2
+  pub three : Tabled N → shape ≤ 1 → Sized N first first′ second second′ place → ¬ InRanges first first′ second second′ → shareAnswer N shape first first′ second second′ place ≡ refusedWith 3
+  pub taken : Tabled N → shape ≤ 1 → Sized N first first′ second second′ place → InRanges first first′ second second′ →
+      shareAnswer N shape first first′ second second′ place ≡ answeredWith (largestShare N shape place first first′ second second′)
+
+-- `name_share`, the same into room for three numbers, another length being 2, and the call for C
+pub record NameAnswers (N shape : ℕ) (first first′ second second′ : List ℤ) (place : ℕ) (room : List ℕ) : Type 0 where
+  pub one : ¬ Tabled N → nameCode N shape first first′ second second′ place room ≡ 1
+  pub eight : Tabled N → 1 < shape → nameCode N shape first first′ second second′ place room ≡ 8
+  pub two : Tabled N → shape ≤ 1 → ¬ Sized N first first′ second second′ place → nameCode N shape first first′ second second′ place room ≡ 2
+  pub two-room : Tabled N → shape ≤ 1 → Sized N first first′ second second′ place → length room ≢ 3 → nameCode N shape first first′ second second′ place room ≡ 2
+  pub three : Tabled N → shape ≤ 1 → Sized N first first′ second second′ place → length room ≡ 3 → ¬ InRanges first first′ second second′ → nameCode N shape first first′ second second′ place room ≡ 3
+  pub taken : Tabled N → shape ≤ 1 → Sized N first first′ second second′ place → length room ≡ 3 → InRanges first first′ second second′ → nameCode N shape first first′ second second′ place room ≡ 0
+  pub names : nameCode N shape first first′ second second′ place room ≡ 0 →
+      let a = shareAnswer N shape first first′ second second′ place in (a .code ≡ 0) × (nameOut N shape first first′ second second′ place room ≡ cond (a .any) 1 0 ∷ a .block ∷ a .coefficient ∷ [])
+  pub kept : nameCode N shape first first′ second second′ place room ≢ 0 → nameOut N shape first first′ second second′ place room ≡ room
 
 -- `listing::round_trip`: what it writes, for any bytes; a refusal is a line. Line 1 is a number that names a tabled N, and further lines stand behind it
 pub record Begun (text : List ℕ) (N : ℕ) (hops : List (List ℕ)) : Type 0 where

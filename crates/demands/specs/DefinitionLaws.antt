@@ -50,6 +50,7 @@ use Rattle.page.specs.Page.{pageCode, pageOut}
 use Rattle.page.specs.PageLaws.{page-count, page-ended, page-long, byte-at, columns-at, no-feed-at, number-at, apart-at, block-at, blanks-at, page-only}
 use Rattle.page.specs.AnswerLaws.{Paged, page-facts, page-taken}
 use Rattle.demands.specs.MovedLaws.{levelled-on, restored-on, ruled-on}
+use Rattle.demands.specs.ExplainLaws.{explained-on}
 use Rattle.demands.specs.StepLaws.{taken-stream, taken-buffer}
 use Rattle.demands.specs.RecordingLaws.{windowed, by-direct, by-short}
 use Rattle.demands.specs.Steps.{Offer, Turn, answered, run, turns, Entry}
@@ -300,4 +301,5 @@ demand-2 = record {
   ruled = ruled-on;
   quantised = levelled-on;
   dequantised = restored-on;
+  explained = explained-on;
 }

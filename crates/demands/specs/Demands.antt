@@ -1,10 +1,10 @@
 -- THE THREE DEMANDS, for every signal, over the definitions that the contracts of the public calls cite (specs/ of block_calls, stream_calls,
--- state_calls, recording_calls, level_calls, page and listing). Each record below is one demand or a part of it; the theorems `demand-1`, `demand-2`, `demand-3`, `levels-kept` and `beyond` of DemandLaws prove them.
+-- state_calls, recording_calls, level_calls, share_calls, page and listing). Each record below is one demand or a part of it; the theorems `demand-1`, `demand-2`, `demand-3`, `levels-kept` and `beyond` of DemandLaws prove them.
 --
 -- What the contracts add: a call ends on any numbers and any buffer lengths and never overflows, and what it returns and leaves is what these
 -- definitions say. A check of the public calls' crates proves that of the code.
 use mathlib.Core.Path.{_≡_}
-use mathlib.Core.Bool.{cond}
+use mathlib.Core.Bool.{true, false, cond}
 use mathlib.Core.List.{List, [], _∷_, _++_}
 use Prim.Native.Nat.{ℕ, suc, _+_, _-_, _*_, _/_, _^_, _≤_, _<_, max}
 use lib.Dec.{T, ltb}
@@ -27,6 +27,9 @@ use Rattle.steps.specs.Table.{rowOf, stepAt, Covered, coarsest}
 use Rattle.levels.specs.Levels.{clipped}
 use Rattle.level_calls.specs.LevelCalls as L
 use Rattle.level_calls.specs.LevelCalls.{quantiseCode, quantiseOut, dequantiseCode, dequantiseOut}
+use Rattle.shares.specs.Shares.{earlier, later, shareIn, Before}
+use Rattle.share_calls.specs.declared.Share.{Share}
+use Rattle.share_calls.specs.ShareCalls.{shareAnswer}
 use Rattle.text.specs.Bytes.{lineFeed, blank}
 use Rattle.text.specs.Number.{isNumber}
 use Rattle.text.specs.Lines.{indexOf, lines, remainder}
@@ -37,9 +40,9 @@ use Rattle.demands.specs.Chains.{calls, held}
 use Rattle.demands.specs.Stored.{Stored, StoredBlocks, StoredOnce, StoredReturned, StoredBack}
 use Rattle.demands.specs.StoredLists.{LoadOffer, loadTurns, loadFinal, loadCalls, loadHeld, asTurns, StoredLoads}
 use Rattle.demands.specs.Recordings.{ByOneCall, BlockByBlock, Back, BackOneQ, SharperBack, offering, outputs}
-use Rattle.demands.specs.Answers.{Tabled, InRange, AnalyseAnswers, FreshAnswers, StepAnswers, StateFreshAnswers, StateStepAnswers, RecordedAnswers, PlayedAnswers, InnerAnswers, PageAnswers, Ruled, TableAnswers, QuantiseAnswers, DequantiseAnswers, ToldAnswers, TellAnswers, StepLevelsAnswers, StateStepLevelsAnswers, ReportAnswers, ListingAnswers}
+use Rattle.demands.specs.Answers.{Tabled, InRange, AnalyseAnswers, FreshAnswers, StepAnswers, StateFreshAnswers, StateStepAnswers, RecordedAnswers, PlayedAnswers, InnerAnswers, PageAnswers, Ruled, TableAnswers, ShareAnswers, NameAnswers, QuantiseAnswers, DequantiseAnswers, ToldAnswers, TellAnswers, StepLevelsAnswers, StateStepLevelsAnswers, ReportAnswers, ListingAnswers}
 
--- ================ DEMAND 1: the whole work, or the numbered refusal of document 01, for recordings, pages, numbered blocks, joints and step tables as document 02, P1, P2, P6, P7 and P8, has it, at P4's six lengths, the short route at four, with stream and buffers as they were
+-- ================ DEMAND 1: the whole work, or the numbered refusal of document 01, for recordings, pages, numbered blocks, joints, step tables and shares as document 02, P1, P2, P6, P7, P8 and P9, has it, at P4's six lengths, the short route at four, with stream and buffers as they were
 -- each call's record is in Answers: its number by the causes, and what a refusal leaves
 pub record Demand-1 : Type 0 where
   pub analyse : (route : Route) (N left right : ℕ) (x out : List ℤ) → AnalyseAnswers route N left right x out
@@ -61,10 +64,12 @@ pub record Demand-1 : Type 0 where
   pub told-first : (route : Route) (N : ℕ) (text : List ℕ) → ToldAnswers route N text
   pub told-in : (number N : ℕ) (text room : List ℕ) → TellAnswers number N text room
   pub reported : (number text : List ℕ) → ReportAnswers number text
+  pub shared : (N shape : ℕ) (first first′ second second′ : List ℤ) (place : ℕ) → ShareAnswers N shape first first′ second second′ place
+  pub shared-in : (N shape : ℕ) (first first′ second second′ : List ℤ) (place : ℕ) (room : List ℕ) → NameAnswers N shape first first′ second second′ place room
   pub stepped-levels : (s : Stream) (number left right : ℕ) (text : List ℕ) (levels out : List ℤ) → StepLevelsAnswers s number left right text levels out
   pub state-stepped-levels : (state : List ℤ) (number left right : ℕ) (text : List ℕ) (levels out : List ℤ) → StateStepLevelsAnswers state number left right text levels out
 
--- ================ DEMAND 2: every coefficient and every sample is document 01's with a turn of 864 parts (P4), halves going away from zero (P5; its sign rule is in Turned), with joints of two shapes (P7), of a recording between the two hops of zeros of document 02, P1, every byte of a page is P2's, and levels and what comes back from them are P8's
+-- ================ DEMAND 2: every coefficient and every sample is document 01's with a turn of 864 parts (P4), halves going away from zero (P5; its sign rule is in Turned), with joints of two shapes (P7), of a recording between the two hops of zeros of document 02, P1, every byte of a page is P2's, levels and what comes back from them are P8's, and the largest share is P9's
 -- the window of a block with joints of the shapes left and right (P7): W(n) where both are long
 abbrev pub window : (N left right : ℕ) → ℕ → ℤ
 window N left right n = cond (ltb n (N / 2)) (rising left N n) (falling right N (n - N / 2))
@@ -145,6 +150,36 @@ pub record Restored-on (N : ℕ) (text : List ℕ) (levels out : List ℤ) : Typ
   pub long : length (dequantiseOut N text levels out) ≡ N / 2
   pub back : (k : ℕ) → k < N / 2 → at (dequantiseOut N text levels out) k ≡ clipped (at levels k *ℤ pos (stepAt (N / 2) text k))
 
+-- which coefficient moved a sample (P9): a is what `largest_share` answered, returning 0. The share of coefficient k of block j, 0 the earlier and 1 the later one, is the change times K times W at the
+-- sample, without its sign
+abbrev pub shareOn : (N shape : ℕ) → (first first′ second second′ : List ℤ) → ℕ → ℕ → ℕ → ℕ
+shareOn N shape first first′ second second′ place = shareIn (earlier N shape place first first′) (later N shape place second second′)
+
+-- a hop that two blocks cover, with a joint of this shape between them: what a stream returns that takes one and then the other, whatever it took before, under whatever numbers
+pub record Covering (N shape : ℕ) (first second hop : List ℤ) : Type 0 where
+  pub stream : Stream
+  pub n-is : stream .n ≡ N
+  pub number : ℕ
+  pub next : ℕ
+  pub left : ℕ
+  pub right : ℕ
+  pub room : List ℤ
+  pub next-room : List ℤ
+  pub taken : stepCode stream number left shape first room ≡ 0
+  pub next-taken : stepCode (step stream number left shape first room .stream) next shape right second next-room ≡ 0
+  pub is : hop ≡ stepOut (step stream number left shape first room .stream) next shape right second next-room
+
+pub record Explained-on (N shape : ℕ) (first first′ second second′ : List ℤ) (place : ℕ) (a : Share) : Type 0 where
+  pub inside : (a .block < 2) × (a .coefficient < N / 2)
+  -- a share is named: it is not zero, no other share is larger, and every share before it in order is smaller
+  pub some : a .any ≡ true → 0 < shareOn N shape first first′ second second′ place (a .block) (a .coefficient)
+  pub most : a .any ≡ true → (j k : ℕ) → j < 2 → k < N / 2 → shareOn N shape first first′ second second′ place j k ≤ shareOn N shape first first′ second second′ place (a .block) (a .coefficient)
+  pub before : a .any ≡ true → (j k : ℕ) → k < N / 2 → Before j k (a .block) (a .coefficient) →
+      shareOn N shape first first′ second second′ place j k < shareOn N shape first first′ second second′ place (a .block) (a .coefficient)
+  -- none is: all shares are zero, and the sample is the same from the original and from the changed coefficients, in two streams that may have nothing else in common
+  pub zero-all : a .any ≡ false → (j k : ℕ) → j < 2 → k < N / 2 → shareOn N shape first first′ second second′ place j k ≡ 0
+  pub same : a .any ≡ false → (hop hop′ : List ℤ) → Covering N shape first second hop → Covering N shape first′ second′ hop′ → at hop place ≡ at hop′ place
+
 pub record Demand-2 : Type 0 where
   -- a window of long joints is document 01's W
   pub long-window : (N n : ℕ) → n < N → window N 0 0 n ≡ W N n
@@ -157,6 +192,8 @@ pub record Demand-2 : Type 0 where
   pub ruled : (N : ℕ) (text : List ℕ) → Tabled N → Ruled N text → (k : ℕ) → k < N / 2 → Ruled-on (N / 2) text k
   pub quantised : (N : ℕ) (text : List ℕ) (x levels : List ℤ) → quantiseCode N text x levels ≡ 0 → Levelled-on N text x levels
   pub dequantised : (N : ℕ) (text : List ℕ) (levels out : List ℤ) → dequantiseCode N text levels out ≡ 0 → Restored-on N text levels out
+  pub explained : (N shape : ℕ) (first first′ second second′ : List ℤ) (place : ℕ) → shareAnswer N shape first first′ second second′ place .code ≡ 0 →
+      Explained-on N shape first first′ second second′ place (shareAnswer N shape first first′ second second′ place)
   -- two different sets of coefficients give two different pages
   pub pages : (N H : ℕ) (x y : List ℤ) (out out′ : List ℕ) → pageCode N H x out ≡ 0 → pageCode N H y out′ ≡ 0 → pageOut N H x out ≡ pageOut N H y out′ → x ≡ y
 

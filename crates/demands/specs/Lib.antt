@@ -20,9 +20,11 @@ pub mod ListingAnswerLaws
 pub mod CauseTestLaws
 pub mod TableAnswerLaws
 pub mod LevelAnswerLaws
+pub mod ShareLaws
 pub mod LoadLaws
 pub mod StoredListLaws
 pub mod AnswerLaws
+pub mod ExplainLaws
 pub mod DefinitionLaws
 pub mod DemandLaws
 pub mod UnchangedLaws
@@ -32,4 +34,5 @@ pub mod Example
 pub mod ExampleLaws
 pub mod RecordingExampleLaws
 pub mod LevelExampleLaws
+pub mod ShareExampleLaws
 pub mod ListingLaws

@@ -1,4 +1,4 @@
-// The public calls of the bank, by family: one block, step tables and levels, streams as values and in states, whole recordings. What each promises stands with it.
+// The public calls of the bank, by family: one block, step tables and levels, shares, streams as values and in states, whole recordings. What each promises stands with it.
 pub use analysis::Route;
 pub use block_calls::analyse;
 pub use level_calls::Told;
@@ -11,6 +11,9 @@ pub use level_calls::told_distance;
 pub use recording_calls::analyse_recording;
 pub use recording_calls::inner;
 pub use recording_calls::synthesise_recording;
+pub use share_calls::Share;
+pub use share_calls::largest_share;
+pub use share_calls::name_share;
 pub use state_calls::fresh_in_place;
 pub use state_calls::step_in_place;
 pub use stream::Stream;

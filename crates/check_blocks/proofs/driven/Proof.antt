@@ -7,10 +7,13 @@ use Rattle.check_blocks.proofs.driven.Statement.{statement}
 use Rattle.check_blocks.proofs.driven.Tie as tie
 
 abbrev Inv-loop : tie.InvT-loop
-Inv-loop n k low high x₀ i₀ x i = (i ≤ n) × (length x ≡ 220)
+Inv-loop n k low high cos x₀ i₀ x i = (i ≤ n) × (length x ≡ 220)
 
 abbrev μ-loop : tie.MeasureT-loop
-μ-loop n k low high x₀ i₀ x i = n - i
+μ-loop n k low high cos x₀ i₀ x i = n - i
+
+quarter-turn-requires : tie.Need-quarter-turn-requires Inv-loop μ-loop
+quarter-turn-requires c κs = search needs
 
 loop-holds : tie.Need-loop-holds Inv-loop μ-loop
 loop-holds c = search needs
@@ -42,6 +45,7 @@ driven-spec =
     (tie.spec
     Inv-loop
     μ-loop
+    quarter-turn-requires
     loop-holds
     kernel-requires
     mul-x

@@ -5,10 +5,13 @@ use Rattle.check_values.proofs.cosines.Statement.{statement}
 use Rattle.check_values.proofs.cosines.Tie as tie
 
 abbrev Inv-loop : tie.InvT-loop
-Inv-loop t₀ t2 t = t ≤ 1800
+Inv-loop cos t₀ t3 t = t ≤ 1800
 
 abbrev μ-loop : tie.MeasureT-loop
-μ-loop t₀ t2 t = 1800 - t
+μ-loop cos t₀ t3 t = 1800 - t
+
+quarter-turn-requires : tie.Need-quarter-turn-requires Inv-loop μ-loop
+quarter-turn-requires c κs = search needs
 
 loop-holds : tie.Need-loop-holds Inv-loop μ-loop
 loop-holds c = search needs
@@ -49,6 +52,7 @@ cosines-spec =
     (tie.spec
     Inv-loop
     μ-loop
+    quarter-turn-requires
     loop-holds
     slice-aggregate-word
     word-requires

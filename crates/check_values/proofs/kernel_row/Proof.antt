@@ -5,10 +5,13 @@ use Rattle.check_values.proofs.kernel_row.Statement.{statement}
 use Rattle.check_values.proofs.kernel_row.Tie as tie
 
 abbrev Inv-loop : tie.InvT-loop
-Inv-loop n i k₀ k-end k = k ≤ n / 2
+Inv-loop n i cos k₀ k-end k = k ≤ n / 2
 
 abbrev μ-loop : tie.MeasureT-loop
-μ-loop n i k₀ k-end k = n / 2 - k
+μ-loop n i cos k₀ k-end k = n / 2 - k
+
+quarter-turn-requires : tie.Need-quarter-turn-requires Inv-loop μ-loop
+quarter-turn-requires c κs = search needs
 
 slice-aggregate-word : tie.Need-slice-aggregate-word Inv-loop μ-loop
 slice-aggregate-word c = search needs
@@ -46,6 +49,7 @@ kernel-row-spec =
     (tie.spec
     Inv-loop
     μ-loop
+    quarter-turn-requires
     slice-aggregate-word
     word-requires
     loop-holds

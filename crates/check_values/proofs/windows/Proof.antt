@@ -5,10 +5,13 @@ use Rattle.check_values.proofs.windows.Statement.{statement}
 use Rattle.check_values.proofs.windows.Tie as tie
 
 abbrev Inv-loop : tie.InvT-loop
-Inv-loop n i₀ i = i ≤ n
+Inv-loop n cos i₀ i = i ≤ n
 
 abbrev μ-loop : tie.MeasureT-loop
-μ-loop n i₀ i = n - i
+μ-loop n cos i₀ i = n - i
+
+quarter-turn-requires : tie.Need-quarter-turn-requires Inv-loop μ-loop
+quarter-turn-requires c κs = search needs
 
 slice-aggregate-word : tie.Need-slice-aggregate-word Inv-loop μ-loop
 slice-aggregate-word c = search needs
@@ -46,6 +49,7 @@ windows-spec =
     (tie.spec
     Inv-loop
     μ-loop
+    quarter-turn-requires
     slice-aggregate-word
     word-requires
     loop-holds

@@ -16,7 +16,7 @@ use Rattle.cosine.proofs.window.Tie as tie
 
 module _ (c : tie.Start) where
   len : Length (c .args .n)
-  len = length-of (c .args .n) (c .pre .0)
+  len = length-of (c .args .n) (c .pre .1 .0)
 
   -- d × (2i + 1) is below half a turn
   angle≤ : d (c .args .n) * (2 * c .args .i + 1) ≤ quarter + quarter

@@ -1,0 +1,56 @@
+-- `noise` is safe and ends: the loop counts to the length of its array.
+use mathlib.Core.Path.{_≡_}
+use Prim.Native.Nat.{_-_, _^_, _≤_, _<_}
+use borrow.Author.Needs.{needs}
+use lib.ListN.{length}
+use Rattle.check_shares.proofs.noise.Statement.{statement}
+use Rattle.check_shares.proofs.noise.Tie as tie
+
+abbrev Inv-loop : tie.InvT-loop
+Inv-loop seed span x₀ r₀ k₀ x r k = (k ≤ 112) × (length x ≡ 112) × (r < 2 ^ 32)
+
+abbrev μ-loop : tie.MeasureT-loop
+μ-loop seed span x₀ r₀ k₀ x r k = 112 - k
+
+loop-holds : tie.Need-loop-holds Inv-loop μ-loop
+loop-holds c = search needs
+
+random-requires : tie.Need-random-requires Inv-loop μ-loop
+random-requires c κs = search needs
+
+offset-requires : tie.Need-offset-requires Inv-loop μ-loop
+offset-requires c κs = search needs
+
+mul-x : tie.Need-mul-x Inv-loop μ-loop
+mul-x c = search needs
+
+array-set-from-x : tie.Need-array-set-from-x Inv-loop μ-loop
+array-set-from-x c = search needs
+
+add-k : tie.Need-add-k Inv-loop μ-loop
+add-k c = search needs
+
+loop-less : tie.Need-loop-less Inv-loop μ-loop
+loop-less c = search needs
+
+loop-again : tie.Need-loop-again Inv-loop μ-loop
+loop-again c = search needs
+
+returns : tie.Need-returns Inv-loop μ-loop
+returns c = search needs
+
+pub noise-spec : {M : Type 1} → statement M
+noise-spec =
+    tie.close
+    (tie.spec
+    Inv-loop
+    μ-loop
+    loop-holds
+    random-requires
+    offset-requires
+    mul-x
+    array-set-from-x
+    add-k
+    loop-less
+    loop-again
+    returns)

@@ -1,0 +1,2 @@
+pub mod ShareCalls
+pub mod ShareCallLaws

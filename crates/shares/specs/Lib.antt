@@ -1,0 +1,4 @@
+pub mod Shares
+pub mod Products
+pub mod ProductLaws
+pub mod LargestLaws
