@@ -31,12 +31,13 @@ enum { LONGEST = 4095, MOST_BLOCKS = 512, BATCH = 4096 };
 static const size_t batches[LENGTHS] = {MOST_BLOCKS, 256, 128, 64, 32, 32};
 
 /* For each length a recording of random samples between two hops of zeros, its coefficients by direct analysis at long joints, those of a batch at
- * short joints, a step table, plain C's levels of a batch by it, what they come back as, the sound of that, and what moved samples in it, and room
- * for every result. The last hop of a batch is zeros too, so that its blocks are those of a recording of its own, of one hop fewer. Sound begins
- * with the run-in, so that each sample returns at its place in the padded recording. */
+ * short joints, those of a batch by frequency, a step table, plain C's levels of a batch by it, what they come back as, the sound of that, and what
+ * moved samples in it, and room for every result. The last hop of a batch is zeros too, so that its blocks are those of a recording of its own, of
+ * one hop fewer. Sound begins with the run-in, so that each sample returns at its place in the padded recording. */
 static int16_t all_padded[LENGTHS][(LONGEST + 2) * MOST_M], *padded;
 static int32_t all_spectra[LENGTHS][(LONGEST + 1) * MOST_M], *spectra;
 static int32_t all_short_joints[LENGTHS][BATCH], *short_joints;
+static int32_t all_by_frequency[LENGTHS][BATCH], *by_frequency;
 static uint8_t all_tables[LENGTHS][TABLE_ROOM], *table;
 static size_t table_lengths[LENGTHS], table_length;
 static int32_t all_levels[LENGTHS][BATCH], *levels;
@@ -74,7 +75,12 @@ static uint32_t refused;
     CALL(whose, quantise, direct, table, table_length, spectra, coefficients)       \
     CALL(whose, dequantise, direct, table, table_length, levels, coefficients)      \
     CALL(whose, step_levels, direct, table, table_length, levels, sound)            \
-    CALL(whose, largest_share, direct, spectra, restored, movers)
+    CALL(whose, largest_share, direct, spectra, restored, movers)                   \
+    CALL(whose, recording_direct_by_frequency, direct, padded, coefficients)        \
+    CALL(whose, recording_short_by_frequency, by_short_route, padded, coefficients) \
+    CALL(whose, synthesis_by_frequency, direct, by_frequency, sound)                \
+    CALL(whose, reordered_by_block, direct, by_frequency, coefficients)             \
+    CALL(whose, reordered_by_frequency, direct, spectra, coefficients)
 
 CALLS(library)
 #ifdef BEFORE
@@ -270,7 +276,7 @@ static void avtx_synthesis(size_t n, size_t blocks)
 /* What a contender's result is held to before it is timed, numbers, sound behind the run-in, or what is named, and how far it may be from it. */
 enum result {
     COEFFICIENTS, NEAR_COEFFICIENTS, FLOAT_COEFFICIENTS, SHORT_JOINTS, NEAR_SHORT_JOINTS, SOUND, FLOAT_SOUND, LEVELS, RESTORED, RESTORED_SOUND,
-    MOVERS
+    MOVERS, IN_BANDS, NEAR_IN_BANDS
 };
 
 static const struct {
@@ -290,6 +296,8 @@ static const struct {
     [RESTORED] = {&restored, NULL, NULL, 0},
     [RESTORED_SOUND] = {NULL, &restored_sound, NULL, 0},
     [MOVERS] = {NULL, NULL, &expected_movers, 0},
+    [IN_BANDS] = {&by_frequency, NULL, NULL, 0},
+    [NEAR_IN_BANDS] = {&by_frequency, NULL, NULL, 16},
 };
 
 struct contender {
@@ -322,6 +330,12 @@ static struct contender contenders[] = {
     ROW(name ", step on levels", whose, step_levels, RESTORED_SOUND)
 #define ON_SHARES(name, whose)                                                              \
     ROW(name ", largest share", whose, largest_share, MOVERS)
+#define IN_ORDERS(name, whose)                                                                                        \
+    ROW(name ", recording, direct, by frequency", whose, recording_direct_by_frequency, IN_BANDS),                    \
+    ROW(name ", recording, short route, by frequency", whose, recording_short_by_frequency, NEAR_IN_BANDS),           \
+    ROW(name ", recording, synthesis, by frequency", whose, synthesis_by_frequency, SOUND),                           \
+    ROW(name ", recording, reordered by block", whose, reordered_by_block, COEFFICIENTS),                             \
+    ROW(name ", recording, reordered by frequency", whose, reordered_by_frequency, IN_BANDS)
 #define PLAIN_ON_LEVELS(variant, options, native)                                                                     \
     {"plain C, quantise, " options, run_##variant##_quantise, plain_offers, LEVELS, native, {0}, {0}},                \
     {"plain C, dequantise, " options, run_##variant##_dequantise, plain_offers, RESTORED, native, {0}, {0}},          \
@@ -361,8 +375,10 @@ static struct contender contenders[] = {
     PLAIN_ON_LEVELS(plain_o3, "-O3", 0),
     PLAIN_ON_LEVELS(plain_native, "-O3 -march=native", 1),
     ON_SHARES("library", library),
+    IN_ORDERS("library", library),
 #ifdef BEFORE
     ON_SHARES("before", before),
+    IN_ORDERS("before", before),
 #endif
     {"plain C, largest share, -O3", run_plain_o3_largest_share, plain_offers, MOVERS, 0, {0}, {0}},
     {"plain C, largest share, -O3 -march=native", run_plain_native_largest_share, plain_offers, MOVERS, 1, {0}, {0}},
@@ -391,6 +407,14 @@ static void prepare_levels(int l)
     }
 }
 
+/* Puts the coefficients of so many blocks of m by frequency. */
+static void put_by_frequency(size_t m, size_t blocks, const int32_t *by_block, int32_t *out)
+{
+    for (size_t b = 0; b < blocks; b++)
+        for (size_t k = 0; k < m; k++)
+            out[k * blocks + b] = by_block[b * m + k];
+}
+
 /* Makes what each length needs. */
 static void prepare(void)
 {
@@ -406,6 +430,7 @@ static void prepare(void)
             plain_o3_analyse_direct(n, 0, 0, all_padded[l] + b * m, all_spectra[l] + b * m);
         for (size_t b = 0; b < batches[l]; b++)
             plain_o3_analyse_direct(n, b > 0, 1, all_padded[l] + b * m, all_short_joints[l] + b * m);
+        put_by_frequency(m, batches[l], all_spectra[l], all_by_frequency[l]);
         prepare_levels(l);
         for (size_t i = 0; i < n; i++)
             windows[l][i] = (float)sin(3.141592653589793 * (double)(2 * i + 1) / (double)(2 * n));
@@ -424,6 +449,7 @@ static void turn_to(int l)
     padded = all_padded[l];
     spectra = all_spectra[l];
     short_joints = all_short_joints[l];
+    by_frequency = all_by_frequency[l];
     table = all_tables[l];
     table_length = table_lengths[l];
     levels = all_levels[l];
@@ -617,10 +643,18 @@ static void print_ratios(void)
     print_ratio("library, largest share", "plain C, largest share, -O3 -march=native");
 }
 
-/* The sizes of recordings that are timed, and the calls over them. */
-static const size_t hops[] = {1, 4, 16, 64, 256, 1024, LONGEST};
-static const char *const kinds[] = {"direct", "short route", "synthesis"};
+/* The sizes of recordings that are timed, and the calls over them, in pairs, by block and by frequency. The longest has a power of two of blocks,
+ * so that by frequency the coefficients of a block compete for few places of a cache: the size before it shows them where they do not. */
+static const size_t hops[] = {1, 4, 16, 64, 256, 1024, 4000, LONGEST};
+static const char *const kinds[] = {
+    "direct", "direct, by frequency", "short route", "short route, by frequency", "synthesis", "synthesis, by frequency",
+    "reordered by block", "reordered by frequency",
+};
 enum { SIZES = sizeof hops / sizeof hops[0], KINDS = sizeof kinds / sizeof kinds[0] };
+
+/* A recording's coefficients by frequency lie otherwise at each size. The least time of a block, or 0 where a call is not offered. */
+static int32_t sized[SIZES][(LONGEST + 1) * MOST_M];
+static double least[LENGTHS][KINDS][SIZES];
 
 static const struct contender *recording(int kind)
 {
@@ -640,23 +674,30 @@ static double time_recording(const struct contender *c, size_t n, size_t blocks)
     return (seconds(CLOCK_THREAD_CPUTIME_ID) - start) * 1e9 / (double)(repeats * blocks);
 }
 
-/* A row for each call that is offered at length l: the least time of a block at each size. */
+/* The least time of a block at each size, for each call that is offered at length l. */
 static void time_recordings_of(int l, int rounds)
 {
-    double least[KINDS][SIZES];
+    for (int s = 0; s < SIZES; s++)
+        put_by_frequency(lengths[l] / 2, hops[s] + 1, spectra, sized[s]);
     for (int r = 0; r < rounds; r++)
         for (int k = 0; k < KINDS; k++)
             for (int s = 0; s < SIZES && recording(k)->offered[l]; s++) {
+                by_frequency = sized[s];
                 double spent = time_recording(recording(k), lengths[l], hops[s] + 1);
-                if (r == 0 || spent < least[k][s])
-                    least[k][s] = spent;
+                if (r == 0 || spent < least[l][k][s])
+                    least[l][k][s] = spent;
             }
+}
+
+/* A row for each call that is offered at length l. */
+static void print_recordings_of(int l)
+{
     for (int k = 0; k < KINDS; k++) {
         if (!recording(k)->offered[l])
             continue;
         printf("| N = %zu, %s |", lengths[l], kinds[k]);
         for (int s = 0; s < SIZES; s++)
-            printf(" %.0f |", least[k][s]);
+            printf(" %.0f |", least[l][k][s]);
         printf("\n");
     }
 }
@@ -674,7 +715,42 @@ static void time_recordings(int rounds)
     for (int l = 0; l < LENGTHS; l++) {
         turn_to(l);
         time_recordings_of(l, rounds);
+        print_recordings_of(l);
     }
+}
+
+/* A recording of one size by one call beside another, or alone where they are the same. */
+static void print_beside(int size, int kind, int beside)
+{
+    for (int l = 0; l < LENGTHS; l++) {
+        double over = least[l][kind][size], under = least[l][beside][size];
+        if (over <= 0)
+            printf(NOT_OFFERED);
+        else if (kind == beside)
+            printf(" %.0f |", over);
+        else
+            printf(" %.2f |", over / under);
+    }
+    printf("\n");
+}
+
+/* The two longest sizes in either order, and what by frequency costs beside by block. */
+static void print_orders(void)
+{
+    printf("\n");
+    print_head("a recording, ns per block");
+    for (int k = 0; k < KINDS; k++)
+        for (int s = SIZES - 2; s < SIZES; s++) {
+            printf("| H = %zu, %s |", hops[s], kinds[k]);
+            print_beside(s, k, k);
+        }
+    printf("\n");
+    print_head("ratio");
+    for (int k = 1; k < KINDS; k += 2)
+        for (int s = SIZES - 2; s < SIZES; s++) {
+            printf("| H = %zu, %s ÷ %s |", hops[s], kinds[k], kinds[k - 1]);
+            print_beside(s, k, k - 1);
+        }
 }
 
 /* One batch of each for callgrind, a dump after each. Code for the machine at hand is left out: valgrind may not know its instructions. */
@@ -714,5 +790,6 @@ int main(int argc, char **argv)
     print_times();
     print_ratios();
     time_recordings(60);
+    print_orders();
     return refused != 0;
 }

@@ -36,6 +36,31 @@
         return refused;                                                                                                   \
     }
 
+/* the orders of a recording's coefficients */
+enum { BY_BLOCK, BY_FREQUENCY };
+
+#define RECORDING(name, call, order)                                                                                      \
+    static uint32_t name(size_t n, size_t blocks, const int16_t *padded, int32_t *coefficients)                           \
+    {                                                                                                                     \
+        size_t m = n / 2, hops = blocks - 1;                                                                              \
+        return call(n, hops, order, padded + m, hops * m, coefficients, blocks * m);                                      \
+    }
+
+/* the run-in is no part of a recording's sound */
+#define SYNTHESIS(name, order)                                                                                            \
+    static uint32_t name(size_t n, size_t blocks, const int32_t *spectra, int16_t *sound)                                 \
+    {                                                                                                                     \
+        size_t m = n / 2, hops = blocks - 1;                                                                              \
+        return dapplescree_synthesise_recording(n, hops, order, spectra, blocks * m, sound + m, hops * m);                \
+    }
+
+#define REORDERED(name, to)                                                                                               \
+    static uint32_t name(size_t n, size_t blocks, const int32_t *spectra, int32_t *coefficients)                          \
+    {                                                                                                                     \
+        size_t length = blocks * (n / 2);                                                                                 \
+        return dapplescree_reorder(n, blocks - 1, to, spectra, length, coefficients, length);                             \
+    }
+
 ANALYSIS(direct, dapplescree_analyse_direct, 0)
 ANALYSIS(direct_short_joints, dapplescree_analyse_direct, 1)
 ANALYSIS(by_short_route, dapplescree_analyse_short, 0)
@@ -63,26 +88,17 @@ static uint32_t largest_share(size_t n, size_t blocks, const int32_t *spectra, c
     return refused;
 }
 
-static uint32_t recording_direct(size_t n, size_t blocks, const int16_t *padded, int32_t *coefficients)
-{
-    size_t m = n / 2, hops = blocks - 1;
-    return dapplescree_analyse_recording_direct(n, hops, padded + m, hops * m, coefficients, blocks * m);
-}
-
-static uint32_t recording_short(size_t n, size_t blocks, const int16_t *padded, int32_t *coefficients)
-{
-    size_t m = n / 2, hops = blocks - 1;
-    return dapplescree_analyse_recording_short(n, hops, padded + m, hops * m, coefficients, blocks * m);
-}
-
-/* the run-in is no part of a recording's sound */
-static uint32_t synthesis(size_t n, size_t blocks, const int32_t *spectra, int16_t *sound)
-{
-    size_t m = n / 2, hops = blocks - 1;
-    return dapplescree_synthesise_recording(n, hops, spectra, blocks * m, sound + m, hops * m);
-}
+RECORDING(recording_direct, dapplescree_analyse_recording_direct, BY_BLOCK)
+RECORDING(recording_direct_by_frequency, dapplescree_analyse_recording_direct, BY_FREQUENCY)
+RECORDING(recording_short, dapplescree_analyse_recording_short, BY_BLOCK)
+RECORDING(recording_short_by_frequency, dapplescree_analyse_recording_short, BY_FREQUENCY)
+SYNTHESIS(synthesis, BY_BLOCK)
+SYNTHESIS(synthesis_by_frequency, BY_FREQUENCY)
+REORDERED(reordered_by_block, BY_BLOCK)
+REORDERED(reordered_by_frequency, BY_FREQUENCY)
 
 const struct library library = {
     direct, by_short_route, recording_direct, recording_short, step, synthesis, direct_short_joints, by_short_route_short_joints, step_short_joints,
-    quantise, dequantise, step_levels, largest_share,
+    quantise, dequantise, step_levels, largest_share, recording_direct_by_frequency, recording_short_by_frequency, synthesis_by_frequency,
+    reordered_by_block, reordered_by_frequency,
 };

@@ -24,6 +24,13 @@ struct library {
     /* n, blocks, their coefficients and changed ones, and three numbers for each block: what is named of a sample that it and the next block cover,
      * the first block being next to the last; the sample's place goes round the hop from its middle on, and the shape of the joint is either in turn */
     uint32_t (*largest_share)(size_t, size_t, const int32_t *, const int32_t *, uint32_t *);
+    /* a recording with its coefficients by frequency, where those above are by block */
+    uint32_t (*recording_direct_by_frequency)(size_t, size_t, const int16_t *, int32_t *);
+    uint32_t (*recording_short_by_frequency)(size_t, size_t, const int16_t *, int32_t *);
+    uint32_t (*synthesis_by_frequency)(size_t, size_t, const int32_t *, int16_t *);
+    /* n, blocks, a recording's coefficients in the other order, and in this one */
+    uint32_t (*reordered_by_block)(size_t, size_t, const int32_t *, int32_t *);
+    uint32_t (*reordered_by_frequency)(size_t, size_t, const int32_t *, int32_t *);
 };
 
 extern const struct library library;

@@ -13,12 +13,13 @@ enum { HOPS = 3, BLOCKS = HOPS + 1, ROOM = 1 << 20 };
 
 static int16_t samples[BLOCKS * MOST_M], sound[HOPS * MOST_M];
 static int32_t spectra[BLOCKS * MOST_M], coefficients[BLOCKS * MOST_M];
+static const int32_t silence[BLOCKS * MOST_M];
 static int64_t state[DAPPLESCREE_STATE];
 static uint8_t page[DAPPLESCREE_PAGE(MOST_N, HOPS)], table[TABLE_ROOM];
 static uint32_t distance[1], named[3];
 
 static size_t n, m, table_length;
-static uint32_t left, right;
+static uint32_t left, right, order;
 
 /* a call that does nothing: it takes its return address */
 static __attribute__((noipa)) uint32_t nothing(size_t length, const int16_t *x, size_t x_length, int32_t *out, size_t out_length)
@@ -62,22 +63,22 @@ static uint32_t step_levels(void)
 
 static uint32_t recording_direct(void)
 {
-    return dapplescree_analyse_recording_direct(n, HOPS, samples, HOPS * m, coefficients, BLOCKS * m);
+    return dapplescree_analyse_recording_direct(n, HOPS, order, samples, HOPS * m, coefficients, BLOCKS * m);
 }
 
 static uint32_t recording_short(void)
 {
-    return dapplescree_analyse_recording_short(n, HOPS, samples, HOPS * m, coefficients, BLOCKS * m);
+    return dapplescree_analyse_recording_short(n, HOPS, order, samples, HOPS * m, coefficients, BLOCKS * m);
 }
 
 static uint32_t synthesis(void)
 {
-    return dapplescree_synthesise_recording(n, HOPS, spectra, BLOCKS * m, sound, HOPS * m);
+    return dapplescree_synthesise_recording(n, HOPS, order, spectra, BLOCKS * m, sound, HOPS * m);
 }
 
 static uint32_t printed(void)
 {
-    return dapplescree_page(n, HOPS, spectra, BLOCKS * m, page, DAPPLESCREE_PAGE(n, HOPS));
+    return dapplescree_page(n, HOPS, order, spectra, BLOCKS * m, page, DAPPLESCREE_PAGE(n, HOPS));
 }
 
 static uint32_t quantise(void)
@@ -103,23 +104,39 @@ static uint32_t largest_share(void)
     return dapplescree_largest_share(n, left, spectra, m, spectra + m, m, spectra + 2 * m, m, spectra + 3 * m, m, m - 1, named, 3);
 }
 
+static uint32_t reorder(void)
+{
+    return dapplescree_reorder(n, HOPS, order, spectra, BLOCKS * m, coefficients, BLOCKS * m);
+}
+
+/* from silence, so that every coefficient changes */
+static uint32_t largest_share_recording(void)
+{
+    return dapplescree_largest_share_recording(n, HOPS, order, silence, BLOCKS * m, spectra, BLOCKS * m, HOPS - 1, m - 1, named, 3);
+}
+
 static const struct call {
     const char *name;
     uint32_t (*run)(void);
+    uint32_t order;
 } calls[] = {
-    {"direct", direct},
-    {"short route", by_short_route},
-    {"fresh", fresh},
-    {"step", step},
-    {"recording, direct", recording_direct},
-    {"recording, short route", recording_short},
-    {"recording, synthesis", synthesis},
-    {"page", printed},
-    {"quantise", quantise},
-    {"dequantise", dequantise},
-    {"told distance", told_distance},
-    {"step on levels", step_levels},
-    {"largest share", largest_share},
+    {"direct", direct, 0},
+    {"short route", by_short_route, 0},
+    {"fresh", fresh, 0},
+    {"step", step, 0},
+#define IN_ORDERS(name, run) {name, run, 0}, {name ", by frequency", run, 1}
+    IN_ORDERS("recording, direct", recording_direct),
+    IN_ORDERS("recording, short route", recording_short),
+    IN_ORDERS("recording, synthesis", synthesis),
+    IN_ORDERS("page", printed),
+    {"reorder to by block", reorder, 0},
+    {"reorder to by frequency", reorder, 1},
+    {"quantise", quantise, 0},
+    {"dequantise", dequantise, 0},
+    {"told distance", told_distance, 0},
+    {"step on levels", step_levels, 0},
+    {"largest share", largest_share, 0},
+    IN_ORDERS("largest share, recording", largest_share_recording),
 };
 
 enum { CALLS = sizeof calls / sizeof calls[0] };
@@ -209,6 +226,7 @@ static void print_row(const struct call *call)
     for (int l = 0; l < LENGTHS; l++) {
         turn_to(lengths[l]);
         refused = 0;
+        order = call->order;
         size_t taken = bytes(call->run);
         if (refused)
             printf(NOT_OFFERED);

@@ -1,10 +1,11 @@
 //! The library held against the reference, call by call.
+mod orders;
 mod shares;
 mod steps;
 
 use crate::inputs::*;
 use crate::library;
-use crate::reference::{offered, page_length, shaped, tail_limit, Bank, Route, Shapes};
+use crate::reference::{offered, page_length, shaped, tail_limit, Bank, Recording, Route, Shapes};
 use crate::reference::{COEFFICIENT_LIMIT, EXPECTED, HOPS, LENGTHS, LONG, SHAPE, STATE, STORAGE, TAIL};
 use std::fmt::Debug;
 
@@ -158,30 +159,29 @@ impl Compare {
         self.call("analyse", &(route, n, shapes), x, output, library, |bank, x, out| bank.analyse(route, n, shapes, x, out))
     }
 
-    fn analyse_recording(&mut self, route: Route, n: usize, hops: usize, x: &[i16], length: usize) -> (u32, Vec<i32>) {
+    fn analyse_recording(&mut self, route: Route, recording: Recording, x: &[i16], length: usize) -> (u32, Vec<i32>) {
         let output = self.rubbish32(length);
-        let library = |x: &[i16], out: &mut [i32]| library::analyse_recording(route, n, hops, x, out);
-        self.call("analyse_recording", &(route, n, hops), x, output, library, |bank, x, out| {
-            bank.analyse_recording(route, n, hops, x, out)
+        let library = |x: &[i16], out: &mut [i32]| library::analyse_recording(route, recording, x, out);
+        self.call("analyse_recording", &(route, recording), x, output, library, |bank, x, out| {
+            bank.analyse_recording(route, recording, x, out)
         })
     }
 
-    fn synthesise_recording(&mut self, n: usize, hops: usize, x: &[i32], length: usize) -> (u32, Vec<i16>) {
+    fn synthesise_recording(&mut self, recording: Recording, x: &[i32], length: usize) -> (u32, Vec<i16>) {
         let output = self.rubbish16(length);
-        let library = |x: &[i32], out: &mut [i16]| library::synthesise_recording(n, hops, x, out);
-        self.call("synthesise_recording", &(n, hops), x, output, library, |bank, x, out| {
-            bank.synthesise_recording(n, hops, x, out)
-        })
+        let library = |x: &[i32], out: &mut [i16]| library::synthesise_recording(recording, x, out);
+        self.call("synthesise_recording", &recording, x, output, library, |bank, x, out| bank.synthesise_recording(recording, x, out))
     }
 
     /// A page that is taken is read back, too.
-    fn page(&mut self, n: usize, hops: usize, x: &[i32], length: usize) {
+    fn page(&mut self, recording: Recording, x: &[i32], length: usize) -> (u32, Vec<u8>) {
         let output = self.rubbish(length, |z| z as u8);
-        let library = |x: &[i32], out: &mut [u8]| library::page(n, hops, x, out);
-        let (number, text) = self.call("page", &(n, hops), x, output, library, |bank, x, out| bank.page(n, hops, x, out));
-        if number == 0 {
-            assert_eq!(read_page(n, &text), x);
+        let library = |x: &[i32], out: &mut [u8]| library::page(recording, x, out);
+        let told = self.call("page", &recording, x, output, library, |bank, x, out| bank.page(recording, x, out));
+        if told.0 == 0 {
+            assert_eq!(read_page(recording.n, &told.1), recording.blocks(x).concat());
         }
+        told
     }
 
     fn stream_fresh(&mut self, n: usize, state: Vec<i64>) -> (u32, Vec<i64>) {
@@ -270,6 +270,12 @@ impl Compare {
         } else {
             hops
         }
+    }
+
+    /// A recording as a call is told of it, mostly as it is.
+    fn some_told(&mut self, n: usize, hops: usize) -> Recording {
+        let order = if self.random.one_in(8) { self.random.pick(&NO_ORDERS) } else { self.random.pick(&ORDERS) };
+        Recording { n: self.some_n(n), hops: self.some_hops(hops), order }
     }
 
     /// Coefficients, now and then with one beyond its limit.
@@ -509,48 +515,49 @@ impl Compare {
     }
 
     /// The same of a recording.
-    fn turned_recording(&mut self, route: Route, n: usize, hops: usize) {
+    fn turned_recording(&mut self, route: Route, recording: Recording) {
+        let Recording { n, hops, .. } = recording;
         let (wide, long) = (hops * n / 2, (hops + 1) * n / 2);
         let (x, turned) = opposites(&samples(&mut self.random, wide));
-        let (_, first) = self.analyse_recording(route, n, hops, &x, long);
-        let (_, second) = self.analyse_recording(route, n, hops, &turned, long);
+        let (_, first) = self.analyse_recording(route, recording, &x, long);
+        let (_, second) = self.analyse_recording(route, recording, &turned, long);
         if second != negated(&first) {
-            mismatch("analyse_recording, sign turned", &(route, n, x), &second, &negated(&first));
+            mismatch("analyse_recording, sign turned", &(route, recording, x), &second, &negated(&first));
         }
     }
 
     fn recordings(&mut self, n: usize) {
         let m = n / 2;
-        for hops in [1, 2, 5, 20] {
+        for recording in [1, 2, 5, 20].into_iter().flat_map(|hops| in_orders(n, hops)) {
             for route in routes_of(n) {
-                self.turned_recording(route, n, hops);
+                self.turned_recording(route, recording);
             }
         }
         for hops in [1, 2, 3, 4, 7, 20] {
-            for _ in 0..40 {
+            for _ in 0..80 {
                 self.some_recording(n, hops);
             }
         }
-        // a coefficient beyond its limit at either end of the first block and of the last
-        for hops in [1, 2, 3, 20] {
-            for at in [0, m - 1, hops * m, hops * m + m - 1] {
+        // a coefficient beyond its limit at either end of the first block and of the last, or of the first band and of the last
+        for recording in [1, 2, 3, 20].into_iter().flat_map(|hops| in_orders(n, hops)) {
+            let hops = recording.hops;
+            for at in [0, hops, m - 1, hops * m, m * hops + m - hops - 1, hops * m + m - 1] {
                 for beyond in BEYOND {
                     let mut x = coefficients(&mut self.random, (hops + 1) * m);
                     x[at] = beyond;
-                    self.synthesise_recording(n, hops, &x, hops * m);
+                    self.synthesise_recording(recording, &x, hops * m);
                 }
             }
         }
-        // numbers of hops whose products wrap round to the lengths handed in
-        for hops in [0, 1 << 62, 1 << 63, (1 << 63) + 1, (1 << 62) + 3, usize::MAX] {
-            let (wide, long) = (hops.wrapping_mul(m), hops.wrapping_add(1).wrapping_mul(m));
+        for recording in WRAPPING_HOPS.into_iter().flat_map(|hops| in_orders(n, hops)) {
+            let (wide, long) = (recording.hops.wrapping_mul(m), recording.hops.wrapping_add(1).wrapping_mul(m));
             if wide < 1000 && long < 1000 {
-                self.both_ways(n, hops, wide, long);
+                self.both_ways(recording, wide, long);
             }
         }
         // the longest, and one hop more
-        for hops in [HOPS, HOPS + 1] {
-            self.both_ways(n, hops, hops * m, (hops + 1) * m);
+        for recording in [HOPS, HOPS + 1].into_iter().flat_map(|hops| in_orders(n, hops)) {
+            self.both_ways(recording, recording.hops * m, (recording.hops + 1) * m);
         }
     }
 
@@ -560,23 +567,23 @@ impl Compare {
         for route in ROUTES {
             let (wide, long) = self.some_lengths(hops, m);
             let x = samples(&mut self.random, wide);
-            let (named_n, named) = (self.some_n(n), self.some_hops(hops));
-            self.analyse_recording(route, named_n, named, &x, long);
+            let told = self.some_told(n, hops);
+            self.analyse_recording(route, told, &x, long);
         }
         let (wide, long) = self.some_lengths(hops, m);
         let x = self.some_coefficients(long);
-        let (named_n, named) = (self.some_n(n), self.some_hops(hops));
-        self.synthesise_recording(named_n, named, &x, wide);
+        let told = self.some_told(n, hops);
+        self.synthesise_recording(told, &x, wide);
     }
 
     /// A recording of so many samples by each route, and so many coefficients back.
-    fn both_ways(&mut self, n: usize, hops: usize, wide: usize, long: usize) {
+    fn both_ways(&mut self, recording: Recording, wide: usize, long: usize) {
         let x = samples(&mut self.random, wide);
         for route in ROUTES {
-            self.analyse_recording(route, n, hops, &x, long);
+            self.analyse_recording(route, recording, &x, long);
         }
         let x = coefficients(&mut self.random, long);
-        self.synthesise_recording(n, hops, &x, wide);
+        self.synthesise_recording(recording, &x, wide);
     }
 
     fn pages(&mut self, n: usize) {
@@ -585,37 +592,43 @@ impl Compare {
             for _ in 0..40 {
                 let (count, length) = (self.some_length((hops + 1) * m), self.some_length(page_length(n, hops)));
                 let x = self.some_coefficients(count);
-                let (named_n, named) = (self.some_n(n), self.some_hops(hops));
-                self.page(named_n, named, &x, length);
+                let told = self.some_told(n, hops);
+                self.page(told, &x, length);
             }
         }
-        // a coefficient at each end of its range, beyond it, and beside every power of ten, at every place of two blocks
-        let tens = (0..9).map(|d| 10i32.pow(d)).flat_map(|p| [p, p - 1, -p, 1 - p]);
-        let sizes: Vec<i32> = [COEFFICIENT_LIMIT, -COEFFICIENT_LIMIT].into_iter().chain(BEYOND).chain(tens).collect();
-        for at in 0..n {
-            for &size in &sizes {
-                let mut x = coefficients(&mut self.random, n);
-                x[at] = size;
-                self.page(n, 1, &x, page_length(n, 1));
-            }
-        }
-        // numbers of hops whose products wrap round to the lengths handed in
-        for hops in [0, 1 << 62, 1 << 63, (1 << 63) + 1, (1 << 62) + 3, usize::MAX] {
-            let blocks = hops.wrapping_add(1);
+        self.page_sizes(n);
+        for recording in WRAPPING_HOPS.into_iter().flat_map(|hops| in_orders(n, hops)) {
+            let blocks = recording.hops.wrapping_add(1);
             for count in [blocks.wrapping_mul(m), n] {
                 for length in [blocks.wrapping_mul(n / 12 * 81), page_length(n, 1)] {
                     if count < 1000 && length < 10_000 {
                         let x = coefficients(&mut self.random, count);
-                        self.page(n, hops, &x, length);
+                        self.page(recording, &x, length);
                     }
                 }
             }
         }
         // the longest, with its last coefficient in range and beyond it, and one hop more
         for (hops, last) in [(HOPS, 1), (HOPS, COEFFICIENT_LIMIT + 1), (HOPS + 1, 1)] {
-            let mut x = coefficients(&mut self.random, (hops + 1) * m);
-            x[hops * m + m - 1] = last;
-            self.page(n, hops, &x, page_length(n, hops));
+            for recording in in_orders(n, hops) {
+                let mut x = coefficients(&mut self.random, (hops + 1) * m);
+                x[hops * m + m - 1] = last;
+                self.page(recording, &x, page_length(n, hops));
+            }
+        }
+    }
+
+    /// A coefficient at each end of its range, beyond it, and beside every power of ten, at every place of two blocks.
+    fn page_sizes(&mut self, n: usize) {
+        let tens = (0..9).map(|d| 10i32.pow(d)).flat_map(|p| [p, p - 1, -p, 1 - p]);
+        let sizes: Vec<i32> = [COEFFICIENT_LIMIT, -COEFFICIENT_LIMIT].into_iter().chain(BEYOND).chain(tens).collect();
+        for at in 0..n {
+            for &size in &sizes {
+                let mut x = coefficients(&mut self.random, n);
+                x[at] = size;
+                let order = self.random.pick(&ORDERS);
+                self.page(Recording { n, hops: 1, order }, &x, page_length(n, 1));
+            }
         }
     }
 
@@ -665,7 +678,7 @@ impl Compare {
             // one hop is pushed from both of its blocks
             let place = if b == pushed { m + target } else { target };
             brought.push(self.changed(n, &coefficients, q, kind, place));
-            given.extend(coefficients);
+            given.push(coefficients);
             routes.push(route);
         }
         let trip = Trip { n, x, joints, q, routes, brought };
@@ -676,21 +689,23 @@ impl Compare {
             trip.near(h, &returned[h + 1], "a list of steps");
         }
         if joints.iter().all(|&shape| shape == LONG) {
-            self.whole_trip(&trip, choice.get(style).copied(), given);
+            self.whole_trip(&trip, choice.get(style).copied(), &given);
         }
     }
 
-    /// The same by the calls over recordings: there, if one route made every block, to the coefficients given, and back.
-    fn whole_trip(&mut self, trip: &Trip, route: Option<Route>, given: Vec<i32>) {
+    /// The same by the calls over recordings, in either order: there, if one route made every block, to the coefficients given, and back.
+    fn whole_trip(&mut self, trip: &Trip, route: Option<Route>, given: &[Vec<i32>]) {
         let m = trip.n / 2;
         let hops = trip.x.len() / m;
-        if let Some(route) = route {
-            assert_eq!(self.analyse_recording(route, trip.n, hops, trip.x, (hops + 1) * m), (0, given));
-        }
-        let (number, sound) = self.synthesise_recording(trip.n, hops, &trip.brought.concat(), hops * m);
-        assert_eq!(number, 0);
-        for h in 0..hops {
-            trip.near(h, &sound[h * m..h * m + m], "synthesise_recording");
+        for recording in in_orders(trip.n, hops) {
+            if let Some(route) = route {
+                assert_eq!(self.analyse_recording(route, recording, trip.x, (hops + 1) * m), (0, recording.laid(given)));
+            }
+            let (number, sound) = self.synthesise_recording(recording, &recording.laid(&trip.brought), hops * m);
+            assert_eq!(number, 0);
+            for h in 0..hops {
+                trip.near(h, &sound[h * m..h * m + m], "synthesise_recording");
+            }
         }
     }
 
@@ -799,6 +814,7 @@ pub fn run(bank: Bank, seed: u64) -> u64 {
         compare.round_trips(n);
         compare.step_tables(n);
         compare.shares(n);
+        compare.orders(n);
     }
     compare.calls
 }

@@ -1,5 +1,6 @@
 //! Samples, coefficients and streams to call with.
-use crate::reference::{offered, tail_limit, Bank, Route, Shapes, COEFFICIENT_LIMIT, EXPECTED, LONG, SHAPE, SHORT, STATE, STORAGE, TAIL};
+use crate::reference::{offered, tail_limit, Bank, Recording, Route, Shapes};
+use crate::reference::{BY_BLOCK, BY_FREQUENCY, COEFFICIENT_LIMIT, EXPECTED, LONG, SHAPE, SHORT, STATE, STORAGE, TAIL};
 use std::collections::HashMap;
 
 pub const ROUTES: [Route; 2] = [Route::Direct, Route::Short];
@@ -22,6 +23,19 @@ pub fn pairs_of_numbers() -> Vec<Shapes> {
     let numbers = SHAPES.into_iter().chain(NO_SHAPES);
     numbers.clone().flat_map(|left| numbers.clone().map(move |right| (left, right))).collect()
 }
+
+pub const ORDERS: [u32; 2] = [BY_BLOCK, BY_FREQUENCY];
+
+/// Numbers that are no order: an order has the numbers that a shape has.
+pub const NO_ORDERS: [u32; 8] = NO_SHAPES;
+
+/// A recording in each order.
+pub fn in_orders(n: usize, hops: usize) -> [Recording; 2] {
+    ORDERS.map(|order| Recording { n, hops, order })
+}
+
+/// Numbers of hops that are none, whose products by small numbers wrap round to small ones.
+pub const WRAPPING_HOPS: [usize; 6] = [0, 1 << 62, 1 << 63, (1 << 63) + 1, (1 << 62) + 3, usize::MAX];
 
 /// Numbers by splitmix64.
 pub struct Random(u64);

@@ -1,5 +1,5 @@
 //! The calls of include/dapplescree.h, each in a safe function over slices.
-use crate::reference::{Changes, Route, Shapes};
+use crate::reference::{Changes, Recording, Route, Shapes};
 
 extern "C" {
     fn dapplescree_analyse_direct(n: usize, left: u32, right: u32, x: *const i16, x_length: usize, out: *mut i32, out_length: usize) -> u32;
@@ -19,6 +19,7 @@ extern "C" {
     fn dapplescree_analyse_recording_direct(
         n: usize,
         hops: usize,
+        order: u32,
         samples: *const i16,
         samples_length: usize,
         coefficients: *mut i32,
@@ -27,6 +28,7 @@ extern "C" {
     fn dapplescree_analyse_recording_short(
         n: usize,
         hops: usize,
+        order: u32,
         samples: *const i16,
         samples_length: usize,
         coefficients: *mut i32,
@@ -35,12 +37,30 @@ extern "C" {
     fn dapplescree_synthesise_recording(
         n: usize,
         hops: usize,
+        order: u32,
         coefficients: *const i32,
         coefficients_length: usize,
         samples: *mut i16,
         samples_length: usize,
     ) -> u32;
-    fn dapplescree_page(n: usize, hops: usize, coefficients: *const i32, coefficients_length: usize, page: *mut u8, page_length: usize) -> u32;
+    fn dapplescree_page(
+        n: usize,
+        hops: usize,
+        order: u32,
+        coefficients: *const i32,
+        coefficients_length: usize,
+        page: *mut u8,
+        page_length: usize,
+    ) -> u32;
+    fn dapplescree_reorder(
+        n: usize,
+        hops: usize,
+        to: u32,
+        coefficients: *const i32,
+        coefficients_length: usize,
+        reordered: *mut i32,
+        reordered_length: usize,
+    ) -> u32;
     fn dapplescree_quantise(
         n: usize,
         table: *const u8,
@@ -88,6 +108,19 @@ extern "C" {
         named: *mut u32,
         named_length: usize,
     ) -> u32;
+    fn dapplescree_largest_share_recording(
+        n: usize,
+        hops: usize,
+        order: u32,
+        original: *const i32,
+        original_length: usize,
+        changed: *const i32,
+        changed_length: usize,
+        hop: usize,
+        place: usize,
+        named: *mut u32,
+        named_length: usize,
+    ) -> u32;
 }
 
 // Each pointer and length below come from one slice, and slices lent by & and &mut do not overlap.
@@ -109,20 +142,24 @@ pub fn stream_step(state: &mut [i64], number: u32, (left, right): Shapes, x: &[i
     unsafe { dapplescree_stream_step(state, length, number, left, right, x.as_ptr(), x.len(), out.as_mut_ptr(), out.len()) }
 }
 
-pub fn analyse_recording(route: Route, n: usize, hops: usize, x: &[i16], out: &mut [i32]) -> u32 {
+pub fn analyse_recording(route: Route, Recording { n, hops, order }: Recording, x: &[i16], out: &mut [i32]) -> u32 {
     let call = match route {
         Route::Direct => dapplescree_analyse_recording_direct,
         Route::Short => dapplescree_analyse_recording_short,
     };
-    unsafe { call(n, hops, x.as_ptr(), x.len(), out.as_mut_ptr(), out.len()) }
+    unsafe { call(n, hops, order, x.as_ptr(), x.len(), out.as_mut_ptr(), out.len()) }
 }
 
-pub fn synthesise_recording(n: usize, hops: usize, x: &[i32], out: &mut [i16]) -> u32 {
-    unsafe { dapplescree_synthesise_recording(n, hops, x.as_ptr(), x.len(), out.as_mut_ptr(), out.len()) }
+pub fn synthesise_recording(Recording { n, hops, order }: Recording, x: &[i32], out: &mut [i16]) -> u32 {
+    unsafe { dapplescree_synthesise_recording(n, hops, order, x.as_ptr(), x.len(), out.as_mut_ptr(), out.len()) }
 }
 
-pub fn page(n: usize, hops: usize, x: &[i32], out: &mut [u8]) -> u32 {
-    unsafe { dapplescree_page(n, hops, x.as_ptr(), x.len(), out.as_mut_ptr(), out.len()) }
+pub fn page(Recording { n, hops, order }: Recording, x: &[i32], out: &mut [u8]) -> u32 {
+    unsafe { dapplescree_page(n, hops, order, x.as_ptr(), x.len(), out.as_mut_ptr(), out.len()) }
+}
+
+pub fn reorder(Recording { n, hops, order }: Recording, x: &[i32], out: &mut [i32]) -> u32 {
+    unsafe { dapplescree_reorder(n, hops, order, x.as_ptr(), x.len(), out.as_mut_ptr(), out.len()) }
 }
 
 pub fn quantise(n: usize, table: &[u8], x: &[i32], out: &mut [i32]) -> u32 {
@@ -147,4 +184,10 @@ pub fn largest_share(n: usize, shape: u32, [a, b, c, d]: Changes, place: usize, 
     let (room, numbers) = (named.as_mut_ptr(), named.len());
     let ([a, b, c, d], lengths) = ([a, b, c, d].map(<[i32]>::as_ptr), [a, b, c, d].map(<[i32]>::len));
     unsafe { dapplescree_largest_share(n, shape, a, lengths[0], b, lengths[1], c, lengths[2], d, lengths[3], place, room, numbers) }
+}
+
+pub fn largest_share_recording(recording: Recording, [original, changed]: [&[i32]; 2], hop: usize, place: usize, named: &mut [u32]) -> u32 {
+    let Recording { n, hops, order } = recording;
+    let ((a, b), (room, numbers)) = ((original.as_ptr(), changed.as_ptr()), (named.as_mut_ptr(), named.len()));
+    unsafe { dapplescree_largest_share_recording(n, hops, order, a, original.len(), b, changed.len(), hop, place, room, numbers) }
 }

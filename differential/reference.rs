@@ -1,4 +1,4 @@
-//! Document 01, with P1, P2 and P4 to P9 of document 02, written out anew: exact series, naive sums, rounding by size. It shares no table with any other file.
+//! Document 01, with P1, P2 and P4 to P10 of document 02, written out anew: exact series, naive sums, rounding by size. It shares no table with any other file.
 
 /// A natural number of any size, in base 2^64, lowest digit first.
 #[derive(Clone)]
@@ -121,6 +121,60 @@ pub enum Route {
 pub type Shapes = (u32, u32);
 pub const LONG: u32 = 0;
 pub const SHORT: u32 = 1;
+
+/// The orders of a recording's coefficients.
+pub const BY_BLOCK: u32 = 0;
+pub const BY_FREQUENCY: u32 = 1;
+
+/// A recording as a call is told of it: its length, its hops, and the order of its coefficients.
+#[derive(Clone, Copy, Debug)]
+pub struct Recording {
+    pub n: usize,
+    pub hops: usize,
+    pub order: u32,
+}
+
+impl Recording {
+    /// Whether there are such hops and such an order.
+    fn counted(self) -> bool {
+        1 <= self.hops && self.hops <= HOPS && self.order <= BY_FREQUENCY
+    }
+
+    /// Whether so many are the coefficients of its blocks, of which it has one more than hops.
+    fn fits(self, length: usize) -> bool {
+        self.counted() && length == (self.hops + 1) * (self.n / 2)
+    }
+
+    fn place(self, b: usize, k: usize) -> usize {
+        if self.order == BY_BLOCK {
+            b * (self.n / 2) + k
+        } else {
+            k * (self.hops + 1) + b
+        }
+    }
+
+    /// The coefficients of each block, from where they lie.
+    pub fn blocks(self, x: &[i32]) -> Vec<Vec<i32>> {
+        let block = |b: usize| (0..self.n / 2).map(|k| x[self.place(b, k)]).collect();
+        (0..=self.hops).map(block).collect()
+    }
+
+    /// The coefficients of all blocks, where they are to lie.
+    pub fn laid(self, blocks: &[Vec<i32>]) -> Vec<i32> {
+        let mut x = vec![0; blocks.len() * (self.n / 2)];
+        for (b, block) in blocks.iter().enumerate() {
+            for (k, &c) in block.iter().enumerate() {
+                x[self.place(b, k)] = c;
+            }
+        }
+        x
+    }
+
+    /// The same recording in the order that this one is not.
+    pub fn turned(self) -> Recording {
+        Recording { order: if self.order == BY_BLOCK { BY_FREQUENCY } else { BY_BLOCK }, ..self }
+    }
+}
 
 /// The original coefficients of the earlier of two blocks and the changed ones, and those of the later block.
 pub type Changes<'a> = [&'a [i32]; 4];
@@ -426,63 +480,105 @@ impl Bank {
         if changes.into_iter().any(beyond) {
             return 3;
         }
+        named.copy_from_slice(&self.largest(n, shape, changes, place, 0));
+        0
+    }
+
+    /// What is named of two blocks, the earlier of which has this number: the first of the largest shares, by block and then by coefficient.
+    fn largest(&self, n: usize, shape: u32, changes: Changes, place: usize, earlier: usize) -> [u32; 3] {
+        let m = n / 2;
         let shares = self.shares(n, shape, changes, place);
-        // the first of the largest, by block and then by coefficient
         let first = (0..2 * m).rev().max_by_key(|&at| shares[at]).expect("a block has coefficients");
-        named.copy_from_slice(&if shares[first] == 0 { [0; 3] } else { [1, (first / m) as u32, (first % m) as u32] });
+        if shares[first] == 0 {
+            [0; 3]
+        } else {
+            [1, (earlier + first / m) as u32, (first % m) as u32]
+        }
+    }
+
+    /// A sample of a recording: blocks hop and hop + 1 cover it, and the joint between them is long.
+    pub fn largest_share_recording(&self, recording: Recording, lists: [&[i32]; 2], hop: usize, place: usize, named: &mut [u32]) -> u32 {
+        let Recording { n, hops, .. } = recording;
+        if !tabled(n) {
+            return 1;
+        }
+        if !lists.iter().all(|x| recording.fits(x.len())) || hop >= hops || place >= n / 2 || named.len() != 3 {
+            return 2;
+        }
+        if lists.into_iter().any(beyond) {
+            return 3;
+        }
+        let [original, changed] = lists.map(|x| recording.blocks(x));
+        let changes: Changes = [&original[hop], &changed[hop], &original[hop + 1], &changed[hop + 1]];
+        named.copy_from_slice(&self.largest(n, LONG, changes, place, hop));
         0
     }
 
     /// Block b, b from 0 to hops, covers hops b - 1 and b. What lies outside the recording is 0, and every joint is long.
-    pub fn analyse_recording(&self, route: Route, n: usize, hops: usize, x: &[i16], out: &mut [i32]) -> u32 {
+    pub fn analyse_recording(&self, route: Route, recording: Recording, x: &[i16], out: &mut [i32]) -> u32 {
+        let Recording { n, hops, .. } = recording;
         if !offered(route, n) {
             return 1;
         }
         let m = n / 2;
-        if hops < 1 || hops > HOPS || x.len() != hops * m || out.len() != (hops + 1) * m {
+        if !recording.fits(out.len()) || x.len() != hops * m {
             return 2;
         }
-        for b in 0..=hops {
+        let block = |b: usize| {
             let sample = |i: usize| (b * m + i).checked_sub(m).and_then(|at| x.get(at)).copied().unwrap_or(0);
-            let block: Vec<i16> = (0..n).map(sample).collect();
-            out[b * m..b * m + m].copy_from_slice(&self.coefficients(route, n, (LONG, LONG), &block));
-        }
+            self.coefficients(route, n, (LONG, LONG), &(0..n).map(sample).collect::<Vec<i16>>())
+        };
+        out.copy_from_slice(&recording.laid(&(0..=hops).map(block).collect::<Vec<_>>()));
         0
     }
 
-    pub fn synthesise_recording(&self, n: usize, hops: usize, x: &[i32], out: &mut [i16]) -> u32 {
+    pub fn synthesise_recording(&self, recording: Recording, x: &[i32], out: &mut [i16]) -> u32 {
+        let Recording { n, hops, .. } = recording;
         if !tabled(n) {
             return 1;
         }
         let m = n / 2;
-        if hops < 1 || hops > HOPS || x.len() != (hops + 1) * m || out.len() != hops * m {
+        if !recording.fits(x.len()) || out.len() != hops * m {
             return 2;
         }
         if beyond(x) {
             return 3;
         }
         let mut tail = vec![0; m];
-        let mut step = |b: usize| self.advance(n, &mut tail, (LONG, LONG), &x[b * m..b * m + m]);
-        let _run_in = step(0);
-        for h in 0..hops {
-            out[h * m..h * m + m].copy_from_slice(&step(h + 1));
-        }
+        let hops = recording.blocks(x).iter().map(|block| self.advance(n, &mut tail, (LONG, LONG), block)).collect::<Vec<_>>();
+        // the first is the run-in
+        out.copy_from_slice(&hops[1..].concat());
         0
     }
 
-    pub fn page(&self, n: usize, hops: usize, x: &[i32], out: &mut [u8]) -> u32 {
+    /// What lies in the order that this one is not, in this one.
+    pub fn reorder(&self, to: Recording, x: &[i32], out: &mut [i32]) -> u32 {
+        if !tabled(to.n) {
+            return 1;
+        }
+        if !to.fits(x.len()) || !to.fits(out.len()) {
+            return 2;
+        }
+        if beyond(x) {
+            return 3;
+        }
+        out.copy_from_slice(&to.laid(&to.turned().blocks(x)));
+        0
+    }
+
+    pub fn page(&self, recording: Recording, x: &[i32], out: &mut [u8]) -> u32 {
+        let Recording { n, hops, .. } = recording;
         if !tabled(n) {
             return 1;
         }
-        let m = n / 2;
-        if hops < 1 || hops > HOPS || x.len() != (hops + 1) * m || out.len() != page_length(n, hops) {
+        if !recording.fits(x.len()) || out.len() != page_length(n, hops) {
             return 2;
         }
         if beyond(x) {
             return 3;
         }
         let mut text = String::new();
-        for (b, block) in x.chunks(m).enumerate() {
+        for (b, block) in recording.blocks(x).iter().enumerate() {
             for (i, six) in block.chunks(6).enumerate() {
                 text += &if i == 0 { format!("{b:>8}") } else { " ".repeat(8) };
                 text.extend(six.iter().map(|z| format!("{z:>12}")));

@@ -1,5 +1,5 @@
 //! The reference held against the lines of vectors/calls.py, one call to a line, fields parted by semicolons.
-use crate::reference::{Bank, Route};
+use crate::reference::{Bank, Recording, Route};
 use std::fmt::Debug;
 use std::str::FromStr;
 
@@ -18,6 +18,10 @@ fn route(field: &str) -> Route {
         "short" => Route::Short,
         _ => panic!("not a route: {field}"),
     }
+}
+
+fn recording([n, hops, order]: [&str; 3]) -> Recording {
+    Recording { n: number(n), hops: number(hops), order: number(order) }
 }
 
 /// A buffer's content after a call: "=" says that it is what it was.
@@ -58,14 +62,26 @@ fn holds(bank: &Bank, line: &str) -> bool {
             let shapes = (number(left), number(right));
             agrees(length, code, out, |b| bank.stream_step(&mut now, number(block), shapes, &list(x), b)) && now == after(after_state, &before)
         }
-        ["analyse_recording", r, n, hops, x, length, code, out] => {
-            agrees(length, code, out, |b| bank.analyse_recording(route(r), number(n), number(hops), &list(x), b))
+        _ => recording_holds(bank, &fields) || steps_hold(bank, &fields) || share_holds(bank, &fields),
+    }
+}
+
+/// The same of the calls over recordings.
+fn recording_holds(bank: &Bank, fields: &[&str]) -> bool {
+    match *fields {
+        ["analyse_recording", r, n, hops, order, x, length, code, out] => {
+            agrees(length, code, out, |b| bank.analyse_recording(route(r), recording([n, hops, order]), &list(x), b))
         }
-        ["synthesise_recording", n, hops, x, length, code, out] => {
-            agrees(length, code, out, |b| bank.synthesise_recording(number(n), number(hops), &list(x), b))
+        ["synthesise_recording", n, hops, order, x, length, code, out] => {
+            agrees(length, code, out, |b| bank.synthesise_recording(recording([n, hops, order]), &list(x), b))
         }
-        ["page", n, hops, x, length, code, out] => agrees(length, code, out, |b| bank.page(number(n), number(hops), &list(x), b)),
-        _ => steps_hold(bank, &fields) || share_holds(bank, &fields),
+        ["page", n, hops, order, x, length, code, out] => agrees(length, code, out, |b| bank.page(recording([n, hops, order]), &list(x), b)),
+        ["reorder", n, hops, to, x, length, code, out] => agrees(length, code, out, |b| bank.reorder(recording([n, hops, to]), &list(x), b)),
+        ["largest_share_recording", n, hops, order, original, changed, hop, place, length, code, out] => {
+            let (told, original, changed) = (recording([n, hops, order]), list(original), list(changed));
+            agrees(length, code, out, |b| bank.largest_share_recording(told, [&original, &changed], number(hop), number(place), b))
+        }
+        _ => false,
     }
 }
 

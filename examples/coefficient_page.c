@@ -13,7 +13,7 @@
 #include <string.h>
 
 /* room for the most hops of the longest length */
-enum { HOPS = 4095, N = 216, M = N / 2 };
+enum { HOPS = 4095, N = 216, M = N / 2, BY_BLOCK = 0 };
 
 static uint8_t bytes[2 * HOPS * M + 1], page[DAPPLESCREE_PAGE(N, HOPS)];
 static int16_t samples[HOPS * M];
@@ -58,9 +58,9 @@ int main(int argc, char **argv)
     }
 
     size_t blocks = (hops + 1) * m, printed = DAPPLESCREE_PAGE(n, hops);
-    uint32_t refused = dapplescree_analyse_recording_direct(n, hops, samples, hops * m, coefficients, blocks);
+    uint32_t refused = dapplescree_analyse_recording_direct(n, hops, BY_BLOCK, samples, hops * m, coefficients, blocks);
     if (!refused)
-        refused = dapplescree_page(n, hops, coefficients, blocks, page, printed);
+        refused = dapplescree_page(n, hops, BY_BLOCK, coefficients, blocks, page, printed);
     if (refused)
         return failed(1, "the library refused a call");
     if (fwrite(page, 1, printed, stdout) != printed || fflush(stdout) != 0)

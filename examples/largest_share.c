@@ -11,7 +11,7 @@
 #include <stdlib.h>
 #include <string.h>
 
-enum { N = 36, M = N / 2, HOPS = 50, SAMPLES = HOPS * M, SILENCE = 3 * M, COEFFICIENTS = (HOPS + 1) * M };
+enum { N = 36, M = N / 2, HOPS = 50, SAMPLES = HOPS * M, SILENCE = 3 * M, COEFFICIENTS = (HOPS + 1) * M, BY_BLOCK = 0 };
 
 /* lines of first coefficient, last coefficient, step: fine below, coarse above */
 static const char table[] = "0,3,16\n4,11,333\n12,17,6000\n";
@@ -59,10 +59,10 @@ int main(void)
     uint32_t named[3], refused = 0;
     for (int i = SILENCE; i < SAMPLES; i++)
         recording[i] = (int16_t)(i * 7919 % 65536 - 32768);
-    refused |= dapplescree_analyse_recording_direct(N, HOPS, recording, SAMPLES, original, COEFFICIENTS);
+    refused |= dapplescree_analyse_recording_direct(N, HOPS, BY_BLOCK, recording, SAMPLES, original, COEFFICIENTS);
     refused |= store();
-    refused |= dapplescree_synthesise_recording(N, HOPS, original, COEFFICIENTS, before, SAMPLES);
-    refused |= dapplescree_synthesise_recording(N, HOPS, changed, COEFFICIENTS, after, SAMPLES);
+    refused |= dapplescree_synthesise_recording(N, HOPS, BY_BLOCK, original, COEFFICIENTS, before, SAMPLES);
+    refused |= dapplescree_synthesise_recording(N, HOPS, BY_BLOCK, changed, COEFFICIENTS, after, SAMPLES);
     size_t sample = moved_most();
     refused |= name(sample, named);
     if (refused)
@@ -72,7 +72,7 @@ int main(void)
     printf("the largest share is that of coefficient %u of block %zu, which went from %d to %d\n", named[2], block, original[at], changed[at]);
 
     changed[at] = original[at];
-    if (dapplescree_synthesise_recording(N, HOPS, changed, COEFFICIENTS, after, SAMPLES))
+    if (dapplescree_synthesise_recording(N, HOPS, BY_BLOCK, changed, COEFFICIENTS, after, SAMPLES))
         return 1;
     printf("with that coefficient as it was, the sample moves by %d\n", distance(sample));
 

@@ -9,7 +9,7 @@
 #include <stdio.h>
 #include <string.h>
 
-enum { N = 72, M = N / 2, HOPS = 30, SAMPLES = HOPS * M, BLOCKS = HOPS + 1, ROUND = 2 * BLOCKS };
+enum { N = 72, M = N / 2, HOPS = 30, SAMPLES = HOPS * M, BLOCKS = HOPS + 1, ROUND = 2 * BLOCKS, BY_BLOCK = 0 };
 
 /* numbers that look random and are the same in every run */
 static uint32_t below(uint32_t count)
@@ -35,7 +35,7 @@ int main(void)
         order[i] = order[place];
         order[place] = i % BLOCKS;
     }
-    refused |= dapplescree_analyse_recording_direct(N, HOPS, recording, SAMPLES, blocks, BLOCKS * M);
+    refused |= dapplescree_analyse_recording_direct(N, HOPS, BY_BLOCK, recording, SAMPLES, blocks, BLOCKS * M);
     refused |= dapplescree_stream_fresh(N, state, DAPPLESCREE_STATE);
     if (refused)
         return 1;

@@ -8,7 +8,7 @@
 #include "dapplescree.h"
 #include <stdio.h>
 
-enum { N = 216, M = N / 2, HOPS = 4, SAMPLES = HOPS * M, COEFFICIENTS = (HOPS + 1) * M };
+enum { N = 216, M = N / 2, HOPS = 4, SAMPLES = HOPS * M, COEFFICIENTS = (HOPS + 1) * M, BY_BLOCK = 0 };
 
 static int differing(const int16_t *returned, const int16_t *recording)
 {
@@ -34,8 +34,8 @@ int main(void)
         refused |= dapplescree_analyse_direct(N, 0, 0, padded + b * M, N, block, M);
         refused |= dapplescree_stream_step(state, DAPPLESCREE_STATE, b, 0, 0, block, M, hops + b * M, M);
     }
-    refused |= dapplescree_analyse_recording_direct(N, HOPS, recording, SAMPLES, blocks, COEFFICIENTS);
-    refused |= dapplescree_synthesise_recording(N, HOPS, blocks, COEFFICIENTS, whole, SAMPLES);
+    refused |= dapplescree_analyse_recording_direct(N, HOPS, BY_BLOCK, recording, SAMPLES, blocks, COEFFICIENTS);
+    refused |= dapplescree_synthesise_recording(N, HOPS, BY_BLOCK, blocks, COEFFICIENTS, whole, SAMPLES);
     if (refused)
         return 1;
 

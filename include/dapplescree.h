@@ -7,6 +7,14 @@
  * coefficients with their signs turned. A recording has one hop of zeros put before it and one after it: of H hops it has H + 1 blocks, and
  * block b, b from 0 to H, covers its hops b - 1 and b, those outside it being zeros.
  *
+ * The coefficients of a recording lie in one of two orders, B = H + 1 being its blocks. An order is a number:
+ *
+ *   0  by block: coefficient k of block b lies at b * M + k, so that a block lies together
+ *   1  by frequency: it lies at k * B + b, so that coefficient k of all blocks, a band over the whole recording, lies together
+ *
+ * place(b, k) below is that place in the order that the call is told. From either order every call over a recording gives the same samples, the
+ * same page and the same explanation, where the same coefficients lie in it.
+ *
  * Two blocks that follow one another meet in a joint, the hop that both cover. Its shape is a number, 0 for long and 1 for short, and says how
  * the later block rises there, by M entries, entry i being:
  *
@@ -42,7 +50,8 @@
  *
  *   0  taken
  *   1  n is not tabled, or is a length at which the short route, where it is asked for, is not offered; or a route is above 1
- *   2  a length differs from the stated one, or hops is not 1 to 4095, or a place is outside its hop
+ *   2  a length differs from the stated one, or hops is not 1 to 4095, or an order is above 1, or a hop is outside its recording, or a place is
+ *      outside its hop
  *   3  a coefficient is below -536870912 or above 536870912
  *   4  the state's entry 0 is not tabled, or one of its first M tail entries lies beyond plus or minus M * 2^55
  *   7  a block's number is not the one that the state expects
@@ -54,16 +63,17 @@
  * call fills holds what is said below, the others hold what they held. No call keeps anything between calls, or reads or writes anything but
  * its arguments, so calls on different buffers may run at the same time.
  *
- * No call allocates. What a call takes of the stack is measured (bench/run stack) and not proved: below 6 KiB for n up to 72, below 7 KiB for
- * n = 108 and below 18 KiB for n = 216; of a step on levels 1 KiB more.
+ * No call allocates, and none copies a recording: by frequency, the coefficients of a few blocks at a time are gathered or put in their places. What a
+ * call takes of the stack is measured (bench/run stack) and not proved, and doesn't grow with a recording: below 6 KiB for n up to 72, below 7 KiB
+ * for n = 108 and below 18 KiB for n = 216; of a step on levels and of the synthesis of a recording 1 KiB more, of its analysis 4 KiB more.
  *
  * These are promises for every value of every argument, under what C cannot check: each pointer is not null, also where its length is 0, is
  * aligned, and points to as many entries as the length that follows it says; a buffer that a call writes overlaps no other of the same call,
  * while those that it only reads may be one and the same; nothing else writes to them, or reads what is being written, until the call returns. A
- * size is without a sign: a negative number handed in for one arrives as a huge size, and is refused as such. A block's number, a shape and a
- * route have 32 bits: of a wider one its low 32 bits arrive. The numbers returned, and what each buffer then holds, are the contracts of
- * crates/c_face/src/lib.rt, which are proved; what is said of chains of states, of levels there and back, of the distance of returned sound, of
- * reading a page and of shares are theorems of crates/demands over the same definitions.
+ * size is without a sign: a negative number handed in for one arrives as a huge size, and is refused as such. A block's number, a shape, a
+ * route and an order have 32 bits: of a wider one its low 32 bits arrive. The numbers returned, and what each buffer then holds, are the contracts
+ * of crates/c_face/src/lib.rt, which are proved; what is said of chains of states, of levels there and back, of the distance of returned sound, of
+ * reading a page, of shares and of either order are theorems of crates/demands over the same definitions.
  */
 #ifndef DAPPLESCREE_H
 #define DAPPLESCREE_H
@@ -141,13 +151,13 @@ uint32_t dapplescree_stream_fresh(size_t n, int64_t *state, size_t state_length)
 uint32_t dapplescree_stream_step(int64_t *state, size_t state_length, uint32_t number, uint32_t left, uint32_t right,
                                  const int32_t *coefficients, size_t coefficients_length, int16_t *hop, size_t hop_length);
 
-/* A whole recording of `hops` hops, every joint of it long, each block analysed directly.
+/* A whole recording of `hops` hops, every joint of it long, each block analysed directly, into the order that is told.
  *   1  n is not tabled
- *   2  hops is not 1 to 4095, samples_length is not hops * M, or coefficients_length is not (hops + 1) * M
- *   0  coefficients[b * M + k] is coefficient k that dapplescree_analyse_direct gives, with both shapes 0, for block b, b from 0 to hops: the
+ *   2  hops is not 1 to 4095, order is above 1, samples_length is not hops * M, or coefficients_length is not (hops + 1) * M
+ *   0  coefficients[place(b, k)] is coefficient k that dapplescree_analyse_direct gives, with both shapes 0, for block b, b from 0 to hops: the
  *      samples from samples[(b - 1) * M] to samples[(b + 1) * M - 1], with 0 for each that lies outside
  */
-uint32_t dapplescree_analyse_recording_direct(size_t n, size_t hops, const int16_t *samples, size_t samples_length,
+uint32_t dapplescree_analyse_recording_direct(size_t n, size_t hops, uint32_t order, const int16_t *samples, size_t samples_length,
     int32_t *coefficients, size_t coefficients_length);
 
 /* A whole recording, every joint of it long, each block analysed by the short route.
@@ -155,36 +165,49 @@ uint32_t dapplescree_analyse_recording_direct(size_t n, size_t hops, const int16
  *   2  as above
  *   0  the same, with dapplescree_analyse_short
  */
-uint32_t dapplescree_analyse_recording_short(size_t n, size_t hops, const int16_t *samples, size_t samples_length,
+uint32_t dapplescree_analyse_recording_short(size_t n, size_t hops, uint32_t order, const int16_t *samples, size_t samples_length,
     int32_t *coefficients, size_t coefficients_length);
 
-/* Synthesis of a whole recording of `hops` hops, every joint of it long.
+/* Synthesis of a whole recording of `hops` hops, every joint of it long, from the order that is told.
  *   1  n is not tabled
- *   2  hops is not 1 to 4095, coefficients_length is not (hops + 1) * M, or samples_length is not hops * M
+ *   2  hops is not 1 to 4095, order is above 1, coefficients_length is not (hops + 1) * M, or samples_length is not hops * M
  *   3  a coefficient is beyond its limit, in whichever block
  *   0  samples[h * M + i] is hop sample i of step h + 1, h below hops, where step b, b from 0 to hops, is taken under number b and both shapes 0,
- *      from a fresh stream on, with coefficients[b * M] .. coefficients[b * M + M - 1]; the run-in, the hop of step 0, is dropped
+ *      from a fresh stream on, with coefficients[place(b, k)] as coefficient k, k below M; the run-in, the hop of step 0, is dropped
  * Where the coefficients are as analysis gave them for the recording's blocks, by these calls or block by block with both shapes 0, each changed
  * by at most Q, every sample is within (Q + 8) / 16 of the recording's at the same place, rounded down, so equal up to Q = 7; Q + 16 stands for
  * Q where one of the two blocks that cover it was analysed by the short route.
  */
-uint32_t dapplescree_synthesise_recording(size_t n, size_t hops, const int32_t *coefficients, size_t coefficients_length,
+uint32_t dapplescree_synthesise_recording(size_t n, size_t hops, uint32_t order, const int32_t *coefficients, size_t coefficients_length,
     int16_t *samples, size_t samples_length);
 
 /* The coefficients of a whole recording of `hops` hops, printed as a page. A line is 80 columns and a line feed: columns 1 to 8 hold the number
  * of a block on its first line and blanks on its other lines, and six coefficients follow in 12 columns each, all right aligned.
+ * The page goes block by block, whichever the order in memory.
  *   1  n is not tabled
- *   2  hops is not 1 to 4095
+ *   2  hops is not 1 to 4095, or order is above 1
  *   2  coefficients_length is not (hops + 1) * M, or page_length is not DAPPLESCREE_PAGE(n, hops)
  *   3  a coefficient is beyond its limit, in whichever block
- *   0  page[81 * g + c] is column c + 1 of line g, c below 80, and page[81 * g + 80] a line feed, g below (hops + 1) * M / 6; line g holds
- *      coefficients[6 * g] .. coefficients[6 * g + 5], and is the first line of block b, b from 0 to hops, where 6 * g is b * M
+ *   0  page[81 * g + c] is column c + 1 of line g, c below 80, and page[81 * g + 80] a line feed, g below (hops + 1) * M / 6; with
+ *      6 * g = b * M + k, k below M, line g holds coefficients k to k + 5 of block b, which are coefficients[place(b, k)] ..
+ *      coefficients[place(b, k + 5)], and is the first line of block b where k is 0
  * A number is decimal digits, the first of them 0 in the number 0 alone, behind a minus sign where it is below 0; the columns in front of it are
  * blanks. The page is ASCII, and no zero byte ends it. -536870912 has ten characters, so two blanks at least stand before every coefficient, and
  * each is read back from its 12 columns.
  */
-uint32_t dapplescree_page(size_t n, size_t hops, const int32_t *coefficients, size_t coefficients_length, uint8_t *page,
+uint32_t dapplescree_page(size_t n, size_t hops, uint32_t order, const int32_t *coefficients, size_t coefficients_length, uint8_t *page,
     size_t page_length);
+
+/* The coefficients of a whole recording of `hops` hops, put in the order `to`: what is taken lies in the order that `to` is not.
+ *   1  n is not tabled
+ *   2  hops is not 1 to 4095, to is above 1, coefficients_length is not (hops + 1) * M, or reordered_length is not (hops + 1) * M
+ *   3  a coefficient is beyond its limit, in whichever block
+ *   0  reordered[b * M + k] is coefficients[k * (hops + 1) + b] where to is 0, and reordered[k * (hops + 1) + b] is coefficients[b * M + k] where
+ *      it is 1, b from 0 to hops and k below M
+ * The two are separate buffers, which do not overlap: nothing is reordered in place. There and back, every coefficient lies where it lay.
+ */
+uint32_t dapplescree_reorder(size_t n, size_t hops, uint32_t to, const int32_t *coefficients, size_t coefficients_length,
+    int32_t *reordered, size_t reordered_length);
 
 /* The coefficients of one block to levels, by a step table.
  *   1  n is not tabled
@@ -256,6 +279,21 @@ uint32_t dapplescree_stream_step_levels(int64_t *state, size_t state_length, uin
 uint32_t dapplescree_largest_share(size_t n, uint32_t shape, const int32_t *first, size_t first_length, const int32_t *first_changed,
     size_t first_changed_length, const int32_t *second, size_t second_length, const int32_t *second_changed, size_t second_changed_length,
     size_t place, uint32_t *named, size_t named_length);
+
+/* The same of a sample of a whole recording of `hops` hops, every joint of it long. `original` are the coefficients of its blocks as analysis gave
+ * them, `changed` the ones from which the sample was made, both in the order that is told. The sample is the one at `place` of hop `hop`, both
+ * counted from 0: samples[hop * M + place]. Blocks hop and hop + 1 cover it. named is an array of three entries.
+ *   1  n is not tabled
+ *   2  hops is not 1 to 4095, order is above 1, original_length or changed_length is not (hops + 1) * M, hop is `hops` or more, place is M or more,
+ *      or named_length is not 3
+ *   3  a coefficient of either list is beyond its limit, in whichever block
+ *   0  named[0] is 1 where a share is not zero, and then the share of coefficient named[2] of block named[1], its number in the recording, so hop
+ *      or hop + 1, is the largest; where all shares are zero, the three entries are 0
+ * It names what dapplescree_largest_share names with shape 0 for those two blocks, with their numbers in the recording for 0 and 1. Where all
+ * shares are zero, dapplescree_synthesise_recording gives the sample alike from the original and from the changed coefficients.
+ */
+uint32_t dapplescree_largest_share_recording(size_t n, size_t hops, uint32_t order, const int32_t *original, size_t original_length,
+    const int32_t *changed, size_t changed_length, size_t hop, size_t place, uint32_t *named, size_t named_length);
 
 #ifdef __cplusplus
 }

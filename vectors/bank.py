@@ -1,4 +1,4 @@
-"""Document 01, with P1, P2 and P4 to P7 of document 02, in exact whole numbers, as plainly as they are written: with steps.py, which has P8, and shares.py,
+"""Document 01, with P1, P2, P4 to P7 and P10 of document 02, in exact whole numbers, as plainly as they are written: with steps.py, which has P8, and shares.py,
 which has P9, the source of every stored output. It shares no table, folding or rounding with the crates."""
 from fractions import Fraction
 from functools import cache
@@ -153,7 +153,28 @@ def hops(N, spectra):
     return returned[1:]
 
 
-# Pages. X is the (H + 1) × M coefficients of a recording.
+# Orders in memory. X is the (H + 1) × M coefficients of a recording; spectra are its blocks, a list of M coefficients for each.
+
+BY_BLOCK, BY_FREQUENCY = 0, 1
+ORDERS = (BY_BLOCK, BY_FREQUENCY)
+
+
+def laid(order, spectra):
+    """The coefficients in this order: block after block, or coefficient k of all blocks after coefficient k - 1 of all of them."""
+    return [c for row in (spectra if order == BY_BLOCK else zip(*spectra)) for c in row]
+
+
+def place(order, N, H, b, k):
+    """Where coefficient k of block b lies."""
+    return b * (N // 2) + k if order == BY_BLOCK else k * (H + 1) + b
+
+
+def spectra(order, N, H, X):
+    """The blocks of what lies in this order."""
+    return [[X[place(order, N, H, b, k)] for k in range(N // 2)] for b in range(H + 1)]
+
+
+# Pages. X is the (H + 1) × M coefficients of a recording, by block.
 
 LINE = 81
 
@@ -221,35 +242,47 @@ def step(stream, b, left, right, X, length):
     return 0, hop, (N, expected + 1, right, new + tail[N // 2 :])
 
 
-def analyse_recording(route, N, H, x, length):
+def counted(H, order):
+    """An order that is none is answered as a number of hops that is none."""
+    return 1 <= H <= HOPS and order in ORDERS
+
+
+def analyse_recording(route, N, H, x, length, order=BY_BLOCK):
     if N not in OFFERED[route]:
         return 1, None
     M = N // 2
-    if not 1 <= H <= HOPS or len(x) != H * M or length != (H + 1) * M:
+    if not counted(H, order) or len(x) != H * M or length != (H + 1) * M:
         return 2, None
-    return 0, [c for block in blocks(N, x) for c in ROUTES[route](N, LONG, LONG, block)]
+    return 0, laid(order, [ROUTES[route](N, LONG, LONG, block) for block in blocks(N, x)])
 
 
-def synthesise_recording(N, H, X, length):
+def recording_refusal(N, H, order, lists, rest_kept):
+    """The number for calls on the coefficients of a recording, each list of which has as many; rest_kept: all else that is 2 is as it should be."""
     if N not in LENGTHS:
-        return 1, None
-    M = N // 2
-    if not 1 <= H <= HOPS or len(X) != (H + 1) * M or length != H * M:
-        return 2, None
-    if beyond(X):
-        return 3, None
-    return 0, [s for hop in hops(N, [X[at : at + M] for at in range(0, len(X), M)]) for s in hop]
+        return 1
+    if not counted(H, order) or any(len(X) != (H + 1) * (N // 2) for X in lists) or not rest_kept:
+        return 2
+    return 3 if any(beyond(X) for X in lists) else 0
 
 
-def page(N, H, X, length):
+def synthesise_recording(N, H, X, length, order=BY_BLOCK):
+    if refused := recording_refusal(N, H, order, [X], length == H * (N // 2)):
+        return refused, None
+    return 0, [s for hop in hops(N, spectra(order, N, H, X)) for s in hop]
+
+
+def page(N, H, X, length, order=BY_BLOCK):
     """The number and the page's bytes."""
-    if N not in LENGTHS:
-        return 1, None
-    if not 1 <= H <= HOPS or len(X) != (H + 1) * (N // 2) or length != page_length(N, H):
-        return 2, None
-    if beyond(X):
-        return 3, None
-    return 0, "".join(page_lines(N, X)).encode()
+    if refused := recording_refusal(N, H, order, [X], length == page_length(N, H)):
+        return refused, None
+    return 0, "".join(page_lines(N, laid(BY_BLOCK, spectra(order, N, H, X)))).encode()
+
+
+def reorder(N, H, to, X, length):
+    """The coefficients in the order `to`, from the other one."""
+    if refused := recording_refusal(N, H, to, [X], length == (H + 1) * (N // 2)):
+        return refused, None
+    return 0, laid(to, spectra(BY_BLOCK + BY_FREQUENCY - to, N, H, X))
 
 
 def inner(N, H, out):

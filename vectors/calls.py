@@ -7,7 +7,7 @@ from itertools import product
 import bank
 import shares
 import steps
-from bank import COEFFICIENT_LIMIT, HOPS, LENGTHS, ROUTES, SHAPES, SHORT_LENGTHS, STATE, STORAGE, page_length, tail_limit
+from bank import COEFFICIENT_LIMIT, HOPS, LENGTHS, LONG, ORDERS, ROUTES, SHAPES, SHORT_LENGTHS, STATE, STORAGE, page_length, tail_limit
 
 rounds = int(sys.argv[1]) if len(sys.argv) > 1 else 25
 rng = random.Random(int(sys.argv[2]) if len(sys.argv) > 2 else 1)
@@ -55,6 +55,10 @@ def lengths(H, M):
 
 def near_hops(H):
     return rng.choice([H] * 24 + [0, H + 1, H - 1, HOPS + 1, 2**32 + H, 2**63, 2**63 + H, 2**64 - 1])
+
+
+def near_order():
+    return rng.choice([*ORDERS] * 12 + [2, 3, 2**31, LAST])
 
 
 def near_shape(shape):
@@ -155,7 +159,7 @@ def stepped_levels(before, M):
 
 
 def near_place(place, M):
-    """A place of a hop of M samples, or a number that is none."""
+    """A place of a hop of M samples, or a number that is none; of a recording of M hops a hop."""
     return rng.choice([place] * 24 + [0, M - 1, M, M + 1, 2 * M - 1, 2**32 + place, 2**63, 2**64 - 1])
 
 
@@ -180,6 +184,48 @@ def shared(N, n):
         lists[at] = (2 * lists[at])[: near(M)]
     shape, place, length = near_shape(rng.choice(SHAPES)), near_place(rng.randrange(M), M), near(3)
     line("largest_share", n, shape, *lists, place, length, *shares.name_share(n, shape, *lists, place, length))
+
+
+def many(H, M):
+    """The coefficients of a recording of H hops, or of another length, now and then with one beyond its limit."""
+    x = coefficients(near((H + 1) * M))
+    return spoil(x) if rng.randrange(6) == 0 else x
+
+
+def recorded(N, n):
+    """Prints the calls over recordings."""
+    M = N // 2
+    for route in ROUTES:
+        H, order = rng.choice([1, 2, 3, 5]), near_order()
+        count, length = lengths(H, M)
+        x, named = samples(count), near_hops(H)
+        line("analyse_recording", route, n, named, order, x, length, *bank.analyse_recording(route, n, named, x, length, order))
+    H, order = rng.choice([1, 2, 3, 5]), near_order()
+    length, count = lengths(H, M)
+    x, named = coefficients(count), near_hops(H)
+    if rng.randrange(6) == 0:
+        spoil(x)
+    line("synthesise_recording", n, named, order, x, length, *bank.synthesise_recording(n, named, x, length, order))
+    H, order = rng.choice([1, 2, 3, 11]), near_order()
+    x, named, length = many(H, M), near_hops(H), near(page_length(N, H))
+    line("page", n, named, order, x, length, *bank.page(n, named, x, length, order))
+    for H in (1, 2, 3):
+        x, named, to, length = many(H, M), near_hops(H), near_order(), near((H + 1) * M)
+        line("reorder", n, named, to, x, length, *bank.reorder(n, named, to, x, length))
+
+
+def shared_recording(N, n):
+    """Prints a call on shares over a recording."""
+    M, H = N // 2, rng.choice([1, 2, 3, 5])
+    original = coefficients((H + 1) * M)
+    lists, at = [original, changed(original)], rng.randrange(2)
+    if rng.randrange(6) == 0:
+        lists[at] = spoil(lists[at][:])
+    if rng.randrange(4) == 0:
+        lists[at] = (2 * lists[at])[: near((H + 1) * M)]
+    named, order, length = near_hops(H), near_order(), near(3)
+    hop, place = near_place(rng.randrange(H), H), near_place(rng.randrange(M), M)
+    line("largest_share_recording", n, named, order, *lists, hop, place, length, *shares.name_share_recording(order, n, named, *lists, hop, place, length))
 
 
 for t in range(-1200, 3000):
@@ -210,27 +256,14 @@ for _ in range(rounds):
             for shapes in product(SHAPES, SHAPES):
                 shapes, x, length = [near_shape(shape) for shape in shapes], samples(near(N)), near(M)
                 line("analyse", route, n, *shapes, x, length, *bank.analyse(route, n, *shapes, x, length))
-            H = rng.choice([1, 2, 3, 5])
-            count, length = lengths(H, M)
-            x, named = samples(count), near_hops(H)
-            line("analyse_recording", route, n, named, x, length, *bank.analyse_recording(route, n, named, x, length))
         for _ in range(3):
             stepped(stepped(state(N), M), M)
         now = bank.stream_fresh(N, [0] * STATE)[1]
         for _ in range(4):
             now = stepped(now, M)
-        H = rng.choice([1, 2, 3, 5])
-        length, count = lengths(H, M)
-        x, named = coefficients(count), near_hops(H)
-        if rng.randrange(6) == 0:
-            spoil(x)
-        line("synthesise_recording", n, named, x, length, *bank.synthesise_recording(n, named, x, length))
-        H = rng.choice([1, 2, 3, 11])
-        x, named, length = coefficients(near((H + 1) * M)), near_hops(H), near(page_length(N, H))
-        if rng.randrange(6) == 0:
-            spoil(x)
-        line("page", n, named, x, length, *bank.page(n, named, x, length))
+        recorded(N, n)
         for _ in range(6):
             step_tables(N, n)
             stepped_levels(stepped_levels(state(N), M), M)
             shared(N, n)
+            shared_recording(N, n)

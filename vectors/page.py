@@ -3,7 +3,8 @@ Each page that is taken is read back from its columns and held to the coefficien
 import sys
 from functools import reduce
 
-from bank import COEFFICIENT_LIMIT, HOPS, LENGTHS, OFFERED, analyse_recording, page, page_length
+from bank import BY_BLOCK, COEFFICIENT_LIMIT, HOPS, LENGTHS, OFFERED, laid, page, page_length, spectra
+from recordings import NUMBERS, ORDERS, analyse_recording
 
 SMALL = 440
 LONG = 24582
@@ -53,14 +54,22 @@ def read_page(N, data):
     return coefficients
 
 
-def printed(N, H, x, length):
-    number, data = page(N, H, x, length)
+def printed_one(order, N, H, x, length):
+    """The page of what lies in an order."""
+    number, data = page(N, H, x, length, NUMBERS[order])
     if number == 0:
-        assert read_page(N, data) == x and len(data) == length
+        assert read_page(N, data) == laid(BY_BLOCK, spectra(NUMBERS[order], N, H, x)) and len(data) == length
     buffer = MARK * length if data is None else data
-    out(b"page,%d,%d,%d,%d,%d,%d\n" % (N, H, len(x), number, length, total(buffer)))
+    out(b"page,%s,%d,%d,%d,%d,%d,%d\n" % (order.encode(), N, H, len(x), number, length, total(buffer)))
     if number == 0:
         out(data if length <= SHOWN else data[-243:])
+    return data
+
+
+def printed(N, H, x, length):
+    """The same numbers taken in one order and in the other: two pages."""
+    for order in ORDERS:
+        printed_one(order, N, H, x, length)
 
 
 def made(kind, r):
@@ -92,9 +101,13 @@ def pages(N, H):
         printed(N, H, x, length)
     silence, sound, loudest = [0] * (H * M), noise(N + H, 32768, H * M), noise(N + H, 0, H * M)
     for route, samples in (("direct", silence), ("direct", sound), ("direct", loudest), ("short", loudest)):
-        number, x = analyse_recording(route, N, H, samples, (H + 1) * M)
-        assert number == (0 if N in OFFERED[route] else 1)
-        printed(N, H, [COEFFICIENT_MARK] * ((H + 1) * M) if x is None else x, length)
+        found = []
+        for order in ORDERS:
+            number, x = analyse_recording(route, order, N, H, samples, (H + 1) * M)
+            assert number == (0 if N in OFFERED[route] else 1)
+            found.append(printed_one(order, N, H, [COEFFICIENT_MARK] * ((H + 1) * M) if x is None else x, length))
+        # the same page from either order
+        assert found[0] == found[1]
 
 
 def put(at, v, count):

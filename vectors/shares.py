@@ -1,4 +1,5 @@
-"""P9 of document 02, which coefficient moved a sample, as plainly as it is written, over bank.py; it shares no code with the crates.
+"""P9 of document 02, which coefficient moved a sample, with its call over recordings of P10, as plainly as they are written, over bank.py and recordings.py;
+it shares no code with the crates.
 Writes what crates/check_shares must print: python3 vectors/shares.py > crates/check_shares/stdout
 `python3 vectors/shares.py near` prints the near ties as the lines of that program."""
 import sys
@@ -6,8 +7,10 @@ from functools import cache
 from itertools import product
 from math import gcd
 
-from bank import COEFFICIENT_LIMIT, LENGTHS, LONG, SHAPES, SHORT, K, beyond, clamp, falling, rising, rnd
+import bank
+from bank import COEFFICIENT_LIMIT, HOPS, LENGTHS, LONG, SHAPES, SHORT, K, beyond, clamp, falling, rising, rnd
 from noise import ROOM, noise, random
+from recordings import FREQUENCY, NUMBERS, ORDERS
 
 # Definitions. first and second are the original coefficients of the two blocks that cover a sample, the earlier block first, and first_changed and
 # second_changed the changed ones.
@@ -69,6 +72,32 @@ def name_share(N, shape, first, first_changed, second, second_changed, place, le
     if refused := refusal(N, shape, lists, place, length == 3):
         return refused, None
     return 0, [int(part) for part in largest(N, shape, *lists, place)]
+
+
+# The calls over recordings: original and changed are the coefficients of its blocks, in the order named.
+
+
+def recording_refusal(N, H, order, original, changed, hop, place, lengths_kept=True):
+    return bank.recording_refusal(N, H, order, [original, changed], hop < H and place < N // 2 and lengths_kept)
+
+
+def largest_recording(order, N, H, original, changed, hop, place):
+    """Of the blocks that cover a hop, which are those of its number and of one more."""
+    lists = [[X[bank.place(order, N, H, b, k)] for k in range(N // 2)] for b in (hop, hop + 1) for X in (original, changed)]
+    any_share, block, k = largest(N, LONG, *lists, place)
+    return (True, hop + block, k) if any_share else (False, 0, 0)
+
+
+def largest_share_recording(order, N, H, original, changed, hop, place):
+    if refused := recording_refusal(N, H, order, original, changed, hop, place):
+        return refused, False, 0, 0
+    return 0, *largest_recording(order, N, H, original, changed, hop, place)
+
+
+def name_share_recording(order, N, H, original, changed, hop, place, length):
+    if refused := recording_refusal(N, H, order, original, changed, hop, place, length == 3):
+        return refused, None
+    return 0, [int(part) for part in largest_recording(order, N, H, original, changed, hop, place)]
 
 
 # Near ties: two coefficients and their changes, whose shares differ and are the same number in 64-bit floats.
@@ -341,6 +370,110 @@ def untabled(n, m):
         assert offer(("untabled",), n, shape, place, *blocks, *lists, 3)[0] == 1
 
 
+# The cases over recordings. A case is its word and fields behind 'recording'.
+
+# room for the coefficients of one hop too many at the shortest length
+MANY = 24582
+
+
+@cache
+def many(seed, span):
+    x = []
+    for _ in range(MANY):
+        seed = random(seed)
+        x.append(seed % (2 * span + 1) - span)
+    return x
+
+
+def lend(case, order, N, H, hop, place, x, y, p, q, room=3):
+    """The calls on the first p and q of two lists, and the first `room` of four numbers, which are all shown afterwards."""
+    lists = x[:p], y[:q]
+    answer = largest_share_recording(NUMBERS[order], N, H, *lists, hop, place)
+    number, named = name_share_recording(NUMBERS[order], N, H, *lists, hop, place, room)
+    assert room != 3 or (number, named or [0, 0, 0]) == (answer[0], [*answer[1:]])
+    left = [*(named or [MARK] * 3), MARK]
+    word, *fields = case
+    fields = [int(f) for f in fields] + [order] + [int(f) for f in (N, H, hop, place, *answer, number, *left)]
+    print(",".join(["recording", word] + [str(f) for f in fields]))
+    return answer
+
+
+def at_hop(order, N, H, hop):
+    M = N // 2
+    l = (H + 1) * M
+    for span, place in ((COEFFICIENT_LIMIT, 0), (1000, M - 1)):
+        assert lend(("noise", span), order, N, H, hop, place, many(5, span), many(6, span), l, l)[2] in (hop, hop + 1)
+    x, answers = many(7, COEFFICIENT_LIMIT), []
+    assert lend(("still",), order, N, H, hop, 1, x, x, l, l) == (0, False, 0, 0)
+    for place, b, k in ((0, hop, M - 1), (M - 1, hop + 1, 0), (1, (hop + 2) % (H + 1), M // 2)):
+        y = put(x, bank.place(NUMBERS[order], N, H, b, k), 0)
+        answers.append(lend(("one", b, k), order, N, H, hop, place, x, y, l, l))
+        assert answers[-1] == ((0, True, b, k) if b in (hop, hop + 1) else (0, False, 0, 0))
+    return answers
+
+
+def over(N, H):
+    for hop in (0, H // 2, H - 1):
+        # one change has the same answer from either order
+        by_block, by_frequency = [at_hop(order, N, H, hop) for order in ORDERS]
+        assert by_block == by_frequency
+
+
+def sized_recording(order, N, H, hop, place, p, q, room=3):
+    return lend(("sized", p, q, room), order, N, H, hop, place, many(3, 1000), many(4, 1000), p, q, room)[0]
+
+
+def beyond_recording(order, N, H, l, at, v):
+    x, y = many(3, 1000), many(4, 1000)
+    due = 3 if at < l and abs(v) > COEFFICIENT_LIMIT else 0
+    assert lend(("original", at, v), order, N, H, 0, 1, put(x, at, v), y, l, l)[0] == due
+    assert lend(("changed", at, v), order, N, H, 0, 1, x, put(y, at, v), l, l)[0] == due
+
+
+def refused_recording(order, N, H):
+    M = N // 2
+    l = (H + 1) * M
+    for hop, place in ((H, 0), (H + 1, 0), (2**32, 0), (2**64 - 1, 0), (0, M), (0, M + 1), (0, 2**64 - 1)):
+        assert sized_recording(order, N, H, hop, place, l, l) == 2
+    assert sized_recording(order, N, H, H - 1, M - 1, l, l) == 0
+    for hops in (0, H - 1, H + 1, 2**32 + H, 2**63 + H):
+        assert sized_recording(order, N, hops, 0, 0, l, l) == 2
+    assert sized_recording(order, N, 2**64 - 1, 0, 0, 0, 0) == 2
+    for p, q in ((l - 1, l), (l + 1, l), (0, l), (l, l - 1), (l, l + 1), (l, 0)):
+        assert sized_recording(order, N, H, 0, 0, p, q) == 2
+    for room in (0, 2, 4):
+        assert sized_recording(order, N, H, 0, 0, l, l, room) == 0
+    for at, v in ((0, BELOW), (l - 1, ABOVE), (l // 2, -(2**31)), (l, ABOVE), (0, BELOW + 1), (l - 1, ABOVE - 1)):
+        beyond_recording(order, N, H, l, at, v)
+
+
+def causes_recording():
+    """Every choice of the causes, at three hops of N = 24, of which the last is meant: the first in their order is answered."""
+    for choice, order in product(range(64), ORDERS):
+        n, hop, length, place, room, v = [choice >> bit & 1 for bit in range(6)]
+        y = put(many(4, 1000), 0, BELOW if v else 0)
+        answer = lend(("causes", choice), order, 24 + n, 3, 2 + hop, 11 + place, many(3, 1000), y, 48 - length, 48 - length, 3 + room)
+        assert answer[0] == (1 if n else 2 if hop or length or place else 3 if v else 0)
+
+
+def untabled_recording(n, m):
+    answers = [sized_recording(order, n, 2, 0, 0, 3 * m, 3 * m) for order in ORDERS]
+    assert answers + [sized_recording(FREQUENCY, n, 0, 9, 9, 0, 0, 4)] == [1] * 3
+
+
+def over_recordings():
+    for N, H in ((12, 1), (12, 2), (12, 3), (12, HOPS), (24, 2), (36, 3), (72, 3), (72, 681), (108, 2), (216, 1), (216, 3), (216, 226)):
+        over(N, H)
+    for N, H in ((12, 3), (12, HOPS), (72, 2), (216, 3)):
+        for order in ORDERS:
+            refused_recording(order, N, H)
+    for order in ORDERS:
+        assert sized_recording(order, 12, HOPS + 1, 0, 0, MANY, MANY) == 2
+    causes_recording()
+    for n, m in ((0, 6), (13, 6), (48, 24), (144, 72), (217, 108), (2**64 - 1, 36)):
+        untabled_recording(n, m)
+
+
 def main():
     for N in LENGTHS:
         offered(N)
@@ -349,6 +482,7 @@ def main():
     for N in LENGTHS:
         for near in near_ties(N):
             pair(*near)
+    over_recordings()
 
 
 if __name__ == "__main__":

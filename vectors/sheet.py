@@ -1,4 +1,4 @@
-"""The sheet that block36.py and joints.py draw on: its sizes and colours, its pens, and how it is begun and written. Importing it draws nothing.
+"""The sheet that block36.py, joints.py and orders.py draw on: its sizes and colours, its pens, and how it is begun and written. Importing it draws nothing.
 The sheet is A4 landscape, five units to a millimetre, and as wide as the cells of a block of thirty-six samples beside a column of words."""
 
 N = 36

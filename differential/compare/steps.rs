@@ -458,18 +458,20 @@ impl Compare {
         }
     }
 
-    /// The same by the call over recordings.
+    /// The same by the call over recordings, in either order.
     fn stored_whole(&mut self, stored: &Stored) {
         let (n, m) = (stored.n, stored.n / 2);
         let hops = stored.levels.len() - 1;
-        let mut x = Vec::new();
+        let mut blocks = Vec::new();
         for (table, levels) in stored.tables.iter().zip(&stored.levels) {
-            x.extend(self.dequantise(n, table, levels, m).1);
+            blocks.push(self.dequantise(n, table, levels, m).1);
         }
-        let (number, sound) = self.synthesise_recording(n, hops, &x, hops * m);
-        assert_eq!(number, 0);
-        for h in 0..hops {
-            self.within_told(stored, h, &sound[h * m..h * m + m], "synthesise_recording of levels");
+        for recording in in_orders(n, hops) {
+            let (number, sound) = self.synthesise_recording(recording, &recording.laid(&blocks), hops * m);
+            assert_eq!(number, 0);
+            for h in 0..hops {
+                self.within_told(stored, h, &sound[h * m..h * m + m], "synthesise_recording of levels");
+            }
         }
     }
 

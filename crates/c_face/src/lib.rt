@@ -3,10 +3,12 @@
 ghost use mathlib.Core.Path.{_≡_};
 ghost use Rattle.analysis.specs.declared.Route.the-variants.{Direct, Short};
 ghost use Rattle.block_calls.specs.Analysis.{analyseCode, analyseOut};
-ghost use Rattle.recording_calls.specs.Recordings.{recordedCode, recordedOut, playedCode, playedOut};
+ghost use Rattle.recording_calls.specs.Recordings.{recordedCode, recordedOut, playedCode, playedOut, reorderCode, reorderOut};
+ghost use Rattle.orders.specs.Orders.{orderOf, hopsIn};
 ghost use Rattle.page.specs.Page.{pageCode, pageOut};
 ghost use Rattle.level_calls.specs.LevelCalls.{quantiseCode, quantiseOut, dequantiseCode, dequantiseOut, tellNumber, tellNumberOut, stateCode, stateAfter, stateOut};
 ghost use Rattle.share_calls.specs.ShareCalls.{nameCode, nameOut};
+ghost use Rattle.share_calls.specs.RecordingShares.{recordingNameCode, recordingNameOut};
 ghost use Rattle.state_calls.specs.States.{freshCode, freshState, stepCode, stepState, stepOut};
 use analysis::Route;
 
@@ -66,18 +68,21 @@ pub extern "C" fn dapplescree_stream_step(
     filter_bank::step_in_place(state, number, left, right, coefficients, hop)
 }
 
-// A whole recording by the direct route: `filter_bank::analyse_recording`.
+// A whole recording by the direct route: `filter_bank::analyse_recording`. An order is a number here, 0 by block and 1 by frequency; any other is answered as no hops are.
 #[no_mangle]
 pub extern "C" fn dapplescree_analyse_recording_direct(
     n: usize,
     hops: usize,
+    order: u32,
     samples: &[i16],
     coefficients: &mut [i32],
 ) -> u32
-    ensures { λ r. ⌜ r ≡ recordedCode Direct n hops (now (samples .entry)) (now (coefficients .entry)) ⌝ }
-    ensures { λ _. ⌜ now (coefficients .exit) ≡ recordedOut Direct n hops (now (samples .entry)) (now (coefficients .entry)) ⌝ }
+    ensures { λ r. ⌜ r ≡ recordedCode Direct n (hopsIn order hops) (now (samples .entry)) (now (coefficients .entry)) ⌝ }
+    ensures { λ _. ⌜ now (coefficients .exit) ≡ recordedOut Direct (orderOf order) n (hopsIn order hops) (now (samples .entry)) (now (coefficients .entry)) ⌝ }
 {
-    filter_bank::analyse_recording(Route::Direct, n, hops, samples, coefficients)
+    let by = orders::numbered(order);
+    let count = orders::hops_in(order, hops);
+    filter_bank::analyse_recording(Route::Direct, by, n, count, samples, coefficients)
 }
 
 // A whole recording by the short route.
@@ -85,13 +90,16 @@ pub extern "C" fn dapplescree_analyse_recording_direct(
 pub extern "C" fn dapplescree_analyse_recording_short(
     n: usize,
     hops: usize,
+    order: u32,
     samples: &[i16],
     coefficients: &mut [i32],
 ) -> u32
-    ensures { λ r. ⌜ r ≡ recordedCode Short n hops (now (samples .entry)) (now (coefficients .entry)) ⌝ }
-    ensures { λ _. ⌜ now (coefficients .exit) ≡ recordedOut Short n hops (now (samples .entry)) (now (coefficients .entry)) ⌝ }
+    ensures { λ r. ⌜ r ≡ recordedCode Short n (hopsIn order hops) (now (samples .entry)) (now (coefficients .entry)) ⌝ }
+    ensures { λ _. ⌜ now (coefficients .exit) ≡ recordedOut Short (orderOf order) n (hopsIn order hops) (now (samples .entry)) (now (coefficients .entry)) ⌝ }
 {
-    filter_bank::analyse_recording(Route::Short, n, hops, samples, coefficients)
+    let by = orders::numbered(order);
+    let count = orders::hops_in(order, hops);
+    filter_bank::analyse_recording(Route::Short, by, n, count, samples, coefficients)
 }
 
 // A whole recording's samples: `filter_bank::synthesise_recording`.
@@ -99,13 +107,16 @@ pub extern "C" fn dapplescree_analyse_recording_short(
 pub extern "C" fn dapplescree_synthesise_recording(
     n: usize,
     hops: usize,
+    order: u32,
     coefficients: &[i32],
     samples: &mut [i16],
 ) -> u32
-    ensures { λ r. ⌜ r ≡ playedCode n hops (now (coefficients .entry)) (now (samples .entry)) ⌝ }
-    ensures { λ _. ⌜ now (samples .exit) ≡ playedOut n hops (now (coefficients .entry)) (now (samples .entry)) ⌝ }
+    ensures { λ r. ⌜ r ≡ playedCode n (hopsIn order hops) (now (coefficients .entry)) (now (samples .entry)) ⌝ }
+    ensures { λ _. ⌜ now (samples .exit) ≡ playedOut (orderOf order) n (hopsIn order hops) (now (coefficients .entry)) (now (samples .entry)) ⌝ }
 {
-    filter_bank::synthesise_recording(n, hops, coefficients, samples)
+    let by = orders::numbered(order);
+    let count = orders::hops_in(order, hops);
+    filter_bank::synthesise_recording(by, n, count, coefficients, samples)
 }
 
 // A recording's coefficients as a printed page: `page::page`. `bytes` is the header's `page`, which is a crate's name here.
@@ -113,13 +124,33 @@ pub extern "C" fn dapplescree_synthesise_recording(
 pub extern "C" fn dapplescree_page(
     n: usize,
     hops: usize,
+    order: u32,
     coefficients: &[i32],
     bytes: &mut [u8],
 ) -> u32
-    ensures { λ r. ⌜ r ≡ pageCode n hops (now (coefficients .entry)) (now (bytes .entry)) ⌝ }
-    ensures { λ _. ⌜ now (bytes .exit) ≡ pageOut n hops (now (coefficients .entry)) (now (bytes .entry)) ⌝ }
+    ensures { λ r. ⌜ r ≡ pageCode n (hopsIn order hops) (now (coefficients .entry)) (now (bytes .entry)) ⌝ }
+    ensures { λ _. ⌜ now (bytes .exit) ≡ pageOut (orderOf order) n (hopsIn order hops) (now (coefficients .entry)) (now (bytes .entry)) ⌝ }
 {
-    page::page(n, hops, coefficients, bytes)
+    let by = orders::numbered(order);
+    let count = orders::hops_in(order, hops);
+    page::page(by, n, count, coefficients, bytes)
+}
+
+// A whole recording's coefficients in the order `to`, from the other one: `filter_bank::reorder`.
+#[no_mangle]
+pub extern "C" fn dapplescree_reorder(
+    n: usize,
+    hops: usize,
+    to: u32,
+    coefficients: &[i32],
+    reordered: &mut [i32],
+) -> u32
+    ensures { λ r. ⌜ r ≡ reorderCode n (hopsIn to hops) (now (coefficients .entry)) (now (reordered .entry)) ⌝ }
+    ensures { λ _. ⌜ now (reordered .exit) ≡ reorderOut (orderOf to) n (hopsIn to hops) (now (coefficients .entry)) (now (reordered .entry)) ⌝ }
+{
+    let by = orders::numbered(to);
+    let count = orders::hops_in(to, hops);
+    filter_bank::reorder(by, n, count, coefficients, reordered)
 }
 
 // The levels of a block's coefficients by a step table: `filter_bank::quantise`.
@@ -207,4 +238,24 @@ pub extern "C" fn dapplescree_largest_share(
         place,
         named,
     )
+}
+
+// Which coefficient moved a sample of a recording: `filter_bank::name_share_recording`.
+#[no_mangle]
+pub extern "C" fn dapplescree_largest_share_recording(
+    n: usize,
+    hops: usize,
+    order: u32,
+    original: &[i32],
+    changed: &[i32],
+    hop: usize,
+    place: usize,
+    named: &mut [u32],
+) -> u32
+    ensures { λ r. ⌜ r ≡ recordingNameCode n (hopsIn order hops) (now (original .entry)) (now (changed .entry)) hop place (now (named .entry)) ⌝ }
+    ensures { λ _. ⌜ now (named .exit) ≡ recordingNameOut (orderOf order) n (hopsIn order hops) (now (original .entry)) (now (changed .entry)) hop place (now (named .entry)) ⌝ }
+{
+    let by = orders::numbered(order);
+    let count = orders::hops_in(order, hops);
+    filter_bank::name_share_recording(by, n, count, original, changed, hop, place, named)
 }

@@ -3,6 +3,7 @@ ghost use mathlib.Core.Path.{_≡_};
 ghost use Prim.Native.Nat.{_≤_, _<_, _^_};
 ghost use lib.ListN.{length};
 use analysis::Route;
+use orders::Order;
 
 // The most hops of a recording.
 const HOPS: usize = 4095;
@@ -54,13 +55,21 @@ fn show(code: u32, out: &[u8]) {
     }
 }
 
+fn show_order(order: Order) {
+    match order {
+        Order::ByBlock => report::word(b",block"),
+        Order::ByFrequency => report::word(b",frequency"),
+    }
+}
+
 // One call: what it was handed, its number, and the buffer afterwards by its length and its sum.
-fn printed(n: usize, hops: usize, x: &[i32], out: &mut [u8]) {
+fn printed(order: Order, n: usize, hops: usize, x: &[i32], out: &mut [u8]) {
     report::word(b"page");
+    show_order(order);
     report::count(n);
     report::count(hops);
     report::count(x.len());
-    let code = page::page(n, hops, x, out);
+    let code = page::page(order, n, hops, x, out);
     report::count(code as usize);
     report::count(out.len());
     report::count(report::sum_bytes(out) as usize);
@@ -129,11 +138,19 @@ fn fill(c: &mut [i32], kind: Kind, seed: u64)
 }
 
 // A page of the first l of c, in a buffer of p marks.
-fn offer(n: usize, hops: usize, c: [i32; SMALL], l: usize, p: usize)
+fn offer_one(order: Order, n: usize, hops: usize, c: [i32; SMALL], l: usize, p: usize)
     requires { ⌜ (l ≤ 440) × (p ≤ 6000) ⌝ }
 {
     let mut out = [MARK; PAGE];
-    printed(n, hops, &c[..l], &mut out[..p]);
+    printed(order, n, hops, &c[..l], &mut out[..p]);
+}
+
+// The same numbers taken in one order and in the other: two pages.
+fn offer(n: usize, hops: usize, c: [i32; SMALL], l: usize, p: usize)
+    requires { ⌜ (l ≤ 440) × (p ≤ 6000) ⌝ }
+{
+    offer_one(Order::ByBlock, n, hops, c, l, p);
+    offer_one(Order::ByFrequency, n, hops, c, l, p);
 }
 
 // A page of coefficients of a kind.
@@ -156,12 +173,29 @@ fn noise(seed: u64, span: u64) -> [i16; SMALL]
 }
 
 // A page of the coefficients of a recording, the first s samples of x; of marks where the route is not offered.
-fn recorded(route: Route, n: usize, hops: usize, x: [i16; SMALL], s: usize, l: usize, p: usize)
+fn recorded_in(
+    order: Order,
+    route: Route,
+    n: usize,
+    hops: usize,
+    x: [i16; SMALL],
+    s: usize,
+    l: usize,
+    p: usize,
+)
     requires { ⌜ (s ≤ 440) × (l ≤ 440) × (p ≤ 6000) ⌝ }
 {
     let mut c = [12345; SMALL];
-    filter_bank::analyse_recording(route, n, hops, &x[..s], &mut c[..l]);
-    offer(n, hops, c, l, p);
+    filter_bank::analyse_recording(route, order, n, hops, &x[..s], &mut c[..l]);
+    offer_one(order, n, hops, c, l, p);
+}
+
+// The same page from either order.
+fn recorded(route: Route, n: usize, hops: usize, x: [i16; SMALL], s: usize, l: usize, p: usize)
+    requires { ⌜ (s ≤ 440) × (l ≤ 440) × (p ≤ 6000) ⌝ }
+{
+    recorded_in(Order::ByBlock, route, n, hops, x, s, l, p);
+    recorded_in(Order::ByFrequency, route, n, hops, x, s, l, p);
 }
 
 // Pages of l coefficients of each kind, and of those of s samples.
@@ -311,11 +345,19 @@ fn many(at: usize, v: i32) -> [i32; LONG]
 }
 
 // A page of the first l of c, in a buffer of p marks.
-fn long(n: usize, hops: usize, c: [i32; LONG], l: usize, p: usize)
+fn long_one(order: Order, n: usize, hops: usize, c: [i32; LONG], l: usize, p: usize)
     requires { ⌜ (l ≤ 24582) × (p ≤ 331857) ⌝ }
 {
     let mut out = marks();
-    printed(n, hops, &c[..l], &mut out[..p]);
+    printed(order, n, hops, &c[..l], &mut out[..p]);
+}
+
+// The same numbers taken in one order and in the other.
+fn long(n: usize, hops: usize, c: [i32; LONG], l: usize, p: usize)
+    requires { ⌜ (l ≤ 24582) × (p ≤ 331857) ⌝ }
+{
+    long_one(Order::ByBlock, n, hops, c, l, p);
+    long_one(Order::ByFrequency, n, hops, c, l, p);
 }
 
 // The most hops: in range, with the last coefficient beyond it, and with one just past the last; and one hop more. At the two longest lengths the most

@@ -3,6 +3,7 @@ ghost use mathlib.Core.Path.{_≡_};
 ghost use Prim.Native.Nat.{_≤_, _<_, _^_};
 ghost use lib.ListN.{length};
 use analysis::Route;
+use orders::Order;
 
 // The most hops of a recording.
 const HOPS: usize = 4095;
@@ -13,8 +14,8 @@ const ROOM: usize = 442476;
 // Room for a few hops of the longest length and for buffers that are too long.
 const SMALL: usize = 330;
 
-// The most entries of a buffer that are shown one by one.
-const SHOWN: usize = 160;
+// The most entries of a buffer that are shown one by one: three blocks of N = 36.
+const SHOWN: usize = 54;
 
 // What a buffer holds before a call.
 const MARK: i16 = 12345;
@@ -60,25 +61,46 @@ fn show_route(route: Route) {
     }
 }
 
-// One call each: what it was handed, its number, and the buffer afterwards.
-fn analysed(route: Route, n: usize, hops: usize, x: &[i16], out: &mut [i32]) {
-    show_route(route);
+fn show_order(order: Order) {
+    match order {
+        Order::ByBlock => report::word(b",block"),
+        Order::ByFrequency => report::word(b",frequency"),
+    }
+}
+
+// What each call is handed first.
+fn show_shape(order: Order, n: usize, hops: usize) {
+    show_order(order);
     report::count(n);
     report::count(hops);
+}
+
+// One call each: what it was handed, its number, and the buffer afterwards.
+fn analysed(route: Route, order: Order, n: usize, hops: usize, x: &[i16], out: &mut [i32]) {
+    show_route(route);
+    show_shape(order, n, hops);
     report::count(x.len());
-    let code = filter_bank::analyse_recording(route, n, hops, x, out);
+    let code = filter_bank::analyse_recording(route, order, n, hops, x, out);
     report::count(code as usize);
     report::coefficients(out, SHOWN);
 }
 
-fn synthesised(n: usize, hops: usize, c: &[i32], out: &mut [i16]) {
+fn synthesised(order: Order, n: usize, hops: usize, c: &[i32], out: &mut [i16]) {
     report::word(b"synthesis");
-    report::count(n);
-    report::count(hops);
+    show_shape(order, n, hops);
     report::count(c.len());
-    let code = filter_bank::synthesise_recording(n, hops, c, out);
+    let code = filter_bank::synthesise_recording(order, n, hops, c, out);
     report::count(code as usize);
     report::samples(out, SHOWN);
+}
+
+fn reordered(to: Order, n: usize, hops: usize, c: &[i32], out: &mut [i32]) {
+    report::word(b"reorder");
+    show_shape(to, n, hops);
+    report::count(c.len());
+    let code = filter_bank::reorder(to, n, hops, c, out);
+    report::count(code as usize);
+    report::coefficients(out, SHOWN);
 }
 
 // The inner part of a buffer.
@@ -128,14 +150,14 @@ fn mark(out: &mut [i16]) {
 }
 
 // Coefficients back to samples.
-fn back(n: usize, hops: usize, x: &[i16], c: &[i32], out: &mut [i16]) {
-    synthesised(n, hops, c, out);
+fn back(order: Order, n: usize, hops: usize, x: &[i16], c: &[i32], out: &mut [i16]) {
+    synthesised(order, n, hops, c, out);
     compared(n, hops, x, out);
     viewed(n, hops, out);
     mark(out);
 }
 
-// A coefficient out of range in the last place.
+// A coefficient out of range in the last place, which is the same in both orders.
 fn spoil(c: &mut [i32]) {
     let count = c.len();
     if 0 < count {
@@ -143,25 +165,78 @@ fn spoil(c: &mut [i32]) {
     }
 }
 
-// A recording there and back: by its coefficients as they are, changed a little, changed much, and with one of them out of range.
-fn there_and_back(route: Route, n: usize, hops: usize, x: &[i16], c: &mut [i32], out: &mut [i16]) {
-    analysed(route, n, hops, x, c);
-    back(n, hops, x, c, out);
-    change(c, 3, 7);
-    back(n, hops, x, c, out);
-    change(c, 4, 5000);
-    back(n, hops, x, c, out);
-    spoil(c);
-    back(n, hops, x, c, out);
+// A recording there and back in both orders: by its coefficients as they are, ..
+fn as_they_are(
+    route: Route,
+    n: usize,
+    hops: usize,
+    x: &[i16],
+    c: &mut [i32],
+    d: &mut [i32],
+    out: &mut [i16],
+) {
+    analysed(route, Order::ByBlock, n, hops, x, c);
+    back(Order::ByBlock, n, hops, x, c, out);
+    analysed(route, Order::ByFrequency, n, hops, x, d);
+    back(Order::ByFrequency, n, hops, x, d, out);
 }
 
-// A recording of the first l samples of x, and room for m coefficients.
+// .. changed a little, brought to the other order and back again over others, ..
+fn changed_a_little(
+    n: usize,
+    hops: usize,
+    x: &[i16],
+    c: &mut [i32],
+    d: &mut [i32],
+    out: &mut [i16],
+) {
+    change(c, 3, 7);
+    reordered(Order::ByFrequency, n, hops, c, d);
+    back(Order::ByFrequency, n, hops, x, d, out);
+    change(c, 5, 32768);
+    reordered(Order::ByBlock, n, hops, d, c);
+}
+
+// .. changed much, and with one of them out of range.
+fn changed_much(n: usize, hops: usize, x: &[i16], c: &mut [i32], d: &mut [i32], out: &mut [i16]) {
+    change(d, 4, 5000);
+    reordered(Order::ByBlock, n, hops, d, c);
+    back(Order::ByBlock, n, hops, x, c, out);
+    spoil(d);
+    reordered(Order::ByBlock, n, hops, d, c);
+    back(Order::ByFrequency, n, hops, x, d, out);
+}
+
+fn there_and_back(
+    route: Route,
+    n: usize,
+    hops: usize,
+    x: &[i16],
+    c: &mut [i32],
+    d: &mut [i32],
+    out: &mut [i16],
+) {
+    as_they_are(route, n, hops, x, c, d, out);
+    changed_a_little(n, hops, x, c, d, out);
+    changed_much(n, hops, x, c, d, out);
+}
+
+// A recording of the first l samples of x, and room for m coefficients in either order.
 fn recorded(route: Route, n: usize, hops: usize, x: &[i16], l: usize, m: usize)
     requires { ⌜ (l ≤ length (now x)) × (l ≤ 442476) × (m ≤ 442476) ⌝ }
 {
     let mut c = [12345; ROOM];
+    let mut d = [12345; ROOM];
     let mut out = [MARK; ROOM];
-    there_and_back(route, n, hops, &x[..l], &mut c[..m], &mut out[..l]);
+    there_and_back(
+        route,
+        n,
+        hops,
+        &x[..l],
+        &mut c[..m],
+        &mut d[..m],
+        &mut out[..l],
+    );
 }
 
 // Silence, of which a recording is made.
@@ -248,20 +323,28 @@ fn with(at: usize, v: i32) -> [i32; SMALL]
 }
 
 // A call by a route on l samples and a buffer of m marks.
-fn offer(route: Route, n: usize, hops: usize, l: usize, m: usize)
+fn offer(route: Route, order: Order, n: usize, hops: usize, l: usize, m: usize)
     requires { ⌜ (l ≤ 330) × (m ≤ 330) ⌝ }
 {
     let x = noise();
     let mut out = [12345; SMALL];
-    analysed(route, n, hops, &x[..l], &mut out[..m]);
+    analysed(route, order, n, hops, &x[..l], &mut out[..m]);
 }
 
 // A call on m coefficients and a buffer of l marks.
-fn play(n: usize, hops: usize, c: [i32; SMALL], m: usize, l: usize)
+fn play(order: Order, n: usize, hops: usize, c: [i32; SMALL], m: usize, l: usize)
     requires { ⌜ (l ≤ 330) × (m ≤ 330) ⌝ }
 {
     let mut out = [MARK; SMALL];
-    synthesised(n, hops, &c[..m], &mut out[..l]);
+    synthesised(order, n, hops, &c[..m], &mut out[..l]);
+}
+
+// A call that brings m coefficients to an order, into a buffer of l marks.
+fn bring(to: Order, n: usize, hops: usize, c: [i32; SMALL], m: usize, l: usize)
+    requires { ⌜ (l ≤ 330) × (m ≤ 330) ⌝ }
+{
+    let mut out = [12345; SMALL];
+    reordered(to, n, hops, &c[..m], &mut out[..l]);
 }
 
 // The inner part of a buffer of l samples.
@@ -272,15 +355,49 @@ fn part(n: usize, hops: usize, l: usize)
     viewed(n, hops, &out[..l]);
 }
 
-// Every call on l samples and m coefficients, these in range and with one that is not.
+// In an order the calls on l samples and m coefficients, these in range and with one that is not.
+fn ordered(order: Order, n: usize, hops: usize, l: usize, m: usize)
+    requires { ⌜ (l ≤ 330) × (m ≤ 330) ⌝ }
+{
+    offer(Route::Direct, order, n, hops, l, m);
+    offer(Route::Short, order, n, hops, l, m);
+    play(order, n, hops, with(0, 1), m, l);
+    play(order, n, hops, with(0, BELOW), m, l);
+}
+
+// Every call on l samples and m coefficients.
 fn every(n: usize, hops: usize, l: usize, m: usize)
     requires { ⌜ (l ≤ 330) × (m ≤ 330) ⌝ }
 {
-    offer(Route::Direct, n, hops, l, m);
-    offer(Route::Short, n, hops, l, m);
-    play(n, hops, with(0, 1), m, l);
-    play(n, hops, with(0, BELOW), m, l);
+    ordered(Order::ByBlock, n, hops, l, m);
+    ordered(Order::ByFrequency, n, hops, l, m);
     part(n, hops, l);
+}
+
+// From m coefficients, in range and with one that is not, to l in the other order.
+fn exchange(n: usize, hops: usize, m: usize, l: usize)
+    requires { ⌜ (l ≤ 330) × (m ≤ 330) ⌝ }
+{
+    bring(Order::ByBlock, n, hops, with(0, 1), m, l);
+    bring(Order::ByFrequency, n, hops, with(0, 1), m, l);
+    bring(Order::ByBlock, n, hops, with(0, BELOW), m, l);
+    bring(Order::ByFrequency, n, hops, with(0, BELOW), m, l);
+}
+
+// Coefficients that are one fewer, one more or none, on either side and on both; the stated length last.
+fn exchanges(n: usize, hops: usize, m: usize)
+    requires { ⌜ (1 ≤ m) × (m < 330) ⌝ }
+{
+    exchange(n, hops, m - 1, m);
+    exchange(n, hops, m + 1, m);
+    exchange(n, hops, 0, m);
+    exchange(n, hops, m, m - 1);
+    exchange(n, hops, m, m + 1);
+    exchange(n, hops, m, 0);
+    exchange(n, hops, m - 1, m - 1);
+    exchange(n, hops, m + 1, m + 1);
+    exchange(n, hops, 0, 0);
+    exchange(n, hops, m, m);
 }
 
 // Samples and coefficients that are one fewer, one more, none, or one in place of the other; the stated lengths last.
@@ -300,6 +417,7 @@ fn lengths(n: usize, hops: usize, l: usize, m: usize)
     every(n, hops, l, l);
     every(n, hops, m, m);
     every(n, hops, l, m);
+    exchanges(n, hops, m);
 }
 
 // A number of hops that is not taken: with buffers of one hop, of none, and with no buffers.
@@ -309,6 +427,8 @@ fn wrong_count(n: usize, m: usize, hops: usize)
     every(n, hops, m, 2 * m);
     every(n, hops, 0, m);
     every(n, hops, 0, 0);
+    exchange(n, hops, 2 * m, 2 * m);
+    exchange(n, hops, 0, 0);
 }
 
 // None, one too many, and numbers that pass for 0 or 1 where upper bits are lost: as they are, with 1 added or times M.
@@ -323,16 +443,26 @@ fn wrong_counts(n: usize, m: usize)
     wrong_count(n, m, 18446744073709551615);
 }
 
-// The coefficient v at the ends of the first block and of the last, of three, between them, and just past them, where it is no cause.
+// The coefficient v in place `at` of three blocks, or just past them.
+fn limited(n: usize, m: usize, at: usize, v: i32)
+    requires { ⌜ (m ≤ 108) × (at < 330) ⌝ }
+{
+    play(Order::ByBlock, n, 2, with(at, v), 3 * m, 2 * m);
+    play(Order::ByFrequency, n, 2, with(at, v), 3 * m, 2 * m);
+    bring(Order::ByBlock, n, 2, with(at, v), 3 * m, 3 * m);
+    bring(Order::ByFrequency, n, 2, with(at, v), 3 * m, 3 * m);
+}
+
+// In the first place of each block and in the last but that of the second, and just past them, where it is no cause.
 fn limit(n: usize, m: usize, v: i32)
     requires { ⌜ (1 ≤ m) × (m ≤ 108) ⌝ }
 {
-    play(n, 2, with(0, v), 3 * m, 2 * m);
-    play(n, 2, with(m - 1, v), 3 * m, 2 * m);
-    play(n, 2, with(m, v), 3 * m, 2 * m);
-    play(n, 2, with(2 * m, v), 3 * m, 2 * m);
-    play(n, 2, with(3 * m - 1, v), 3 * m, 2 * m);
-    play(n, 2, with(3 * m, v), 3 * m, 2 * m);
+    limited(n, m, 0, v);
+    limited(n, m, m - 1, v);
+    limited(n, m, m, v);
+    limited(n, m, 2 * m, v);
+    limited(n, m, 3 * m - 1, v);
+    limited(n, m, 3 * m, v);
 }
 
 fn limits(n: usize, m: usize)

@@ -1,4 +1,6 @@
 // Which coefficient moved a sample, through the public calls, compared with what vectors/shares.py makes from the definitions.
+mod recordings;
+
 ghost use Prim.Native.Nat.{_≤_, _<_, _/_, _^_};
 ghost use lib.Dec.{T};
 ghost use Rattle.cosine.specs.Kernels.{tabled};
@@ -941,4 +943,5 @@ fn main() {
     untabled(432, 108);
     untabled(18446744073709551615, 36);
     near();
+    recordings::recordings();
 }

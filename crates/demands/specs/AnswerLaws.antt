@@ -19,6 +19,7 @@ use Rattle.stream.specs.Synthesis as S
 use Rattle.stream.specs.Steps.{next, hop}
 use Rattle.analysis.specs.declared.Route.{Route}
 use Rattle.analysis.specs.Analysis.{coefficients}
+use Rattle.orders.specs.declared.Order.{Order}
 use Rattle.recording.specs.Recordings.{analysis, synthesis}
 use Rattle.stream_calls.specs.declared.Made.{Made}
 use Rattle.checks.specs.Causes.{Cause, _unless_, First}
@@ -35,6 +36,7 @@ use Rattle.demands.specs.ListingAnswerLaws.{listing-answers}
 use Rattle.demands.specs.TableAnswerLaws.{table-answers}
 use Rattle.demands.specs.LevelAnswerLaws.{quantise-answers, dequantise-answers, told-answers, tell-answers, report-answers, step-levels-answers, state-levels-answers, last-number}
 use Rattle.demands.specs.ShareLaws.{share-answers, name-answers}
+use Rattle.demands.specs.OrderAnswerLaws.{reorder-answers, number-answers, recording-share-answers, recording-name-answers}
 use Rattle.demands.specs.StepLaws.{code-other, refused-stream, refused-buffer}
 use Rattle.demands.specs.CauseTestLaws.{counts, counts-not, ranges, ranges-not, sounds, sounds-not-n, sounds-not-tail, shapes-true, shapes-false, fits-true, fits-not, fits-other, fits-forged, negative, no-length-0, shape-negative, shape-large}
 use Rattle.demands.specs.Answers.{Tabled, SoundTail, Fitting, AnalyseAnswers, FreshAnswers, StepAnswers, RecordedAnswers, PlayedAnswers, InnerAnswers, PageAnswers, StateFreshAnswers, StateStepAnswers}
@@ -98,9 +100,9 @@ step-answers s number l r x out =
         First (4 unless sound s ∷ 7 unless eqb number (s .expected) ∷ 8 unless fits l r (s .shape) ∷ cs) k
     passing f g = pass (sounds s (f .length-is) (f .tail-is)) (same (f .number-is) (pass (fits-true s l r (f .shapes) (f .left-is)) g))
 
-recorded-answers : (route : Route) (N H : ℕ) (x out : List ℤ) → RecordedAnswers route N H x out
+recorded-answers : (route : Route) (order : Order) (N H : ℕ) (x out : List ℤ) → RecordedAnswers route order N H x out
 unfolding recordedCauses recordedCode recordedOut
-recorded-answers route N H x out =
+recorded-answers route order N H x out =
     let cs = recordedCauses route N H x out in
     record {
       one = λ n. first-is cs (stop (is-false n));
@@ -108,12 +110,12 @@ recorded-answers route N H x out =
       two-in = λ t n. first-is cs (pass (is-true t) (beside (differs n)));
       two-out = λ t n. first-is cs (pass (is-true t) (beside (beside (differs n))));
       taken = λ t k l m. first-is cs (pass (is-true t) (pass (counts H k) (same l (same m none))));
-      kept = λ r. code-other (recordedCode route N H x out) (analysis route N H x) out r;
+      kept = λ r. code-other (recordedCode route N H x out) (analysis route order N H x) out r;
     }
 
-played-answers : (N H : ℕ) (x out : List ℤ) → PlayedAnswers N H x out
+played-answers : (order : Order) (N H : ℕ) (x out : List ℤ) → PlayedAnswers order N H x out
 unfolding playedCauses playedCode playedOut
-played-answers N H x out =
+played-answers order N H x out =
     let m = (H + 1) * (N / 2) in
     let cs = playedCauses N H x out in
     record {
@@ -123,7 +125,7 @@ played-answers N H x out =
       two-out = λ t n. first-is cs (pass (is-true t) (beside (beside (differs n))));
       three = λ t k l f n. first-is cs (pass (is-true t) (pass (counts H k) (same l (same f (stop (ranges-not x m l n))))));
       taken = λ t k l f r. first-is cs (pass (is-true t) (pass (counts H k) (same l (same f (pass (ranges x m l r) none)))));
-      kept = λ r. code-other (playedCode N H x out) (synthesis N H x) out r;
+      kept = λ r. code-other (playedCode N H x out) (synthesis order N H x) out r;
     }
 
 inner-answers : (N H : ℕ) (out : List ℤ) → InnerAnswers N H out
@@ -138,9 +140,9 @@ inner-answers N H out =
       whole = λ t k e. let g : tabled N ≡ true = is-true t in rw (g, counts H k, eq-eqb l m e);
     }
 
-page-answers : (N H : ℕ) (x : List ℤ) (out : List ℕ) → PageAnswers N H x out
+page-answers : (order : Order) (N H : ℕ) (x : List ℤ) (out : List ℕ) → PageAnswers order N H x out
 unfolding pageCauses pageCode pageOut
-page-answers N H x out =
+page-answers order N H x out =
     let m = (H + 1) * (N / 2) in
     let cs = pageCauses N H x out in
     record {
@@ -150,7 +152,7 @@ page-answers N H x out =
       two-out = λ t n. first-is cs (pass (is-true t) (beside (beside (differs n))));
       three = λ t k l f n. first-is cs (pass (is-true t) (pass (counts H k) (same l (same f (stop (ranges-not x m l n))))));
       taken = λ t k l f r. first-is cs (pass (is-true t) (pass (counts H k) (same l (same f (pass (ranges x m l r) none)))));
-      kept = λ r. code-other (pageCode N H x out) (pageOf N H x) out r;
+      kept = λ r. code-other (pageCode N H x out) (pageOf order N H x) out r;
     }
 
 -- ---- the calls for C on a state
@@ -225,6 +227,8 @@ demand-1 = record {
   recorded = recorded-answers;
   played = played-answers;
   inner = inner-answers;
+  reordered = reorder-answers;
+  numbered = number-answers;
   paged = page-answers;
   state-made = state-fresh-answers;
   state-stepped = state-step-answers;
@@ -239,4 +243,6 @@ demand-1 = record {
   state-stepped-levels = state-levels-answers;
   shared = share-answers;
   shared-in = name-answers;
+  shared-recording = λ order N H X X′ hop place. recording-share-answers N H X X′ hop place order;
+  shared-recording-in = λ order N H X X′ hop place room. recording-name-answers N H X X′ hop place order room;
 }

@@ -18,7 +18,10 @@ use Rattle.analysis.specs.Analysis.{offered, unitsOf}
 use Rattle.block_calls.specs.Analysis.{analyseCode, analyseOut}
 use Rattle.checks.specs.Limits.{tailLimit, coefficientLimit, hopLimit}
 use Rattle.stream_calls.specs.Streams.{fresh, stepCode, step, stepOut}
-use Rattle.recording_calls.specs.Recordings.{recordedCode, recordedOut, playedCode, playedOut, innerOf}
+use Rattle.orders.specs.declared.Order.{Order}
+use Rattle.orders.specs.declared.Order.the-variants.{ByBlock, ByFrequency}
+use Rattle.orders.specs.Orders.{orderOf, hopsIn}
+use Rattle.recording_calls.specs.Recordings.{recordedCode, recordedOut, playedCode, playedOut, reorderCode, reorderOut, innerOf}
 use Rattle.state_calls.specs.States.{entries, streamIn, freshCode, freshState, stepState, stepCode as stateCode, stepOut as stateOut}
 use Rattle.steps.specs.Table as G
 use Rattle.steps.specs.Table.{rowOf, refused, verdict, tableCode, coarsest}
@@ -29,6 +32,7 @@ use Rattle.table_report.specs.Report as R
 use Rattle.table_report.specs.Report.{takenLines, reportOf}
 use Rattle.shares.specs.Shares.{largestShare}
 use Rattle.share_calls.specs.ShareCalls.{answeredWith, refusedWith, shareAnswer, nameCode, nameOut}
+use Rattle.share_calls.specs.RecordingShares.{shareAt, numberedFrom, recordingShare, recordingNameCode, recordingNameOut}
 use Rattle.text.specs.Number.{isNumber, value}
 use Rattle.text.specs.Lines.{lines, remainder}
 use Rattle.page.specs.Page.{pageCode, pageOut}
@@ -124,24 +128,40 @@ pub record StateStepAnswers (state : List ℤ) (number left right : ℕ) (x out 
   pub kept-state : stateCode state number left right x out ≢ 0 → stepState state number left right x out ≡ state
   pub kept : stateCode state number left right x out ≢ 0 → stateOut state number left right x out ≡ out
 
--- `analyse_recording`, by either route: H × M samples in, the (H + 1) × M coefficients of all blocks out
-pub record RecordedAnswers (route : Route) (N H : ℕ) (x out : List ℤ) : Type 0 where
+-- `analyse_recording`, by either route: H × M samples in, the (H + 1) × M coefficients of all blocks out, in either order
+pub record RecordedAnswers (route : Route) (order : Order) (N H : ℕ) (x out : List ℤ) : Type 0 where
   pub one : ¬ Offered route N → recordedCode route N H x out ≡ 1
   pub two-hops : Offered route N → ¬ Counted H → recordedCode route N H x out ≡ 2
   pub two-in : Offered route N → length x ≢ H * (N / 2) → recordedCode route N H x out ≡ 2
   pub two-out : Offered route N → length out ≢ (H + 1) * (N / 2) → recordedCode route N H x out ≡ 2
   pub taken : Offered route N → Counted H → length x ≡ H * (N / 2) → length out ≡ (H + 1) * (N / 2) → recordedCode route N H x out ≡ 0
-  pub kept : recordedCode route N H x out ≢ 0 → recordedOut route N H x out ≡ out
+  pub kept : recordedCode route N H x out ≢ 0 → recordedOut route order N H x out ≡ out
 
 -- `synthesise_recording`: the other way round
-pub record PlayedAnswers (N H : ℕ) (x out : List ℤ) : Type 0 where
+pub record PlayedAnswers (order : Order) (N H : ℕ) (x out : List ℤ) : Type 0 where
   pub one : ¬ Tabled N → playedCode N H x out ≡ 1
   pub two-hops : Tabled N → ¬ Counted H → playedCode N H x out ≡ 2
   pub two-in : Tabled N → length x ≢ (H + 1) * (N / 2) → playedCode N H x out ≡ 2
   pub two-out : Tabled N → length out ≢ H * (N / 2) → playedCode N H x out ≡ 2
   pub three : Tabled N → Counted H → length x ≡ (H + 1) * (N / 2) → length out ≡ H * (N / 2) → ¬ InRange x → playedCode N H x out ≡ 3
   pub taken : Tabled N → Counted H → length x ≡ (H + 1) * (N / 2) → length out ≡ H * (N / 2) → InRange x → playedCode N H x out ≡ 0
-  pub kept : playedCode N H x out ≢ 0 → playedOut N H x out ≡ out
+  pub kept : playedCode N H x out ≢ 0 → playedOut order N H x out ≡ out
+
+-- `reorder`: (H + 1) × M coefficients in, and as many out
+pub record ReorderAnswers (to : Order) (N H : ℕ) (x out : List ℤ) : Type 0 where
+  pub one : ¬ Tabled N → reorderCode N H x out ≡ 1
+  pub two-hops : Tabled N → ¬ Counted H → reorderCode N H x out ≡ 2
+  pub two-in : Tabled N → length x ≢ (H + 1) * (N / 2) → reorderCode N H x out ≡ 2
+  pub two-out : Tabled N → length out ≢ (H + 1) * (N / 2) → reorderCode N H x out ≡ 2
+  pub three : Tabled N → Counted H → length x ≡ (H + 1) * (N / 2) → length out ≡ (H + 1) * (N / 2) → ¬ InRange x → reorderCode N H x out ≡ 3
+  pub taken : Tabled N → Counted H → length x ≡ (H + 1) * (N / 2) → length out ≡ (H + 1) * (N / 2) → InRange x → reorderCode N H x out ≡ 0
+  pub kept : reorderCode N H x out ≢ 0 → reorderOut to N H x out ≡ out
+
+-- for C an order is a number: the calls over recordings are handed `orderOf order` and `hopsIn order H`. With any number but 0 and 1 they are handed no hops, which each answers with 2 (`two-hops`)
+pub record NumberAnswers (order H : ℕ) : Type 0 where
+  pub by-block : order ≡ 0 → (orderOf order ≡ ByBlock) × (hopsIn order H ≡ H)
+  pub by-frequency : order ≡ 1 → (orderOf order ≡ ByFrequency) × (hopsIn order H ≡ H)
+  pub other : 1 < order → ¬ Counted (hopsIn order H)
 
 -- `inner`: what the part holds. Its contract says that it starts where the buffer does; the buffer is lent to be read, so it is as it was
 pub record InnerAnswers (N H : ℕ) (out : List ℤ) : Type 0 where
@@ -151,14 +171,14 @@ pub record InnerAnswers (N H : ℕ) (out : List ℤ) : Type 0 where
   pub whole : Tabled N → Counted H → length out ≡ H * (N / 2) → innerOf N H out ≡ out
 
 -- `page`: (H + 1) × M coefficients in, (H + 1) × (M / 6) lines of 81 bytes out
-pub record PageAnswers (N H : ℕ) (x : List ℤ) (out : List ℕ) : Type 0 where
+pub record PageAnswers (order : Order) (N H : ℕ) (x : List ℤ) (out : List ℕ) : Type 0 where
   pub one : ¬ Tabled N → pageCode N H x out ≡ 1
   pub two-hops : Tabled N → ¬ Counted H → pageCode N H x out ≡ 2
   pub two-in : Tabled N → length x ≢ (H + 1) * (N / 2) → pageCode N H x out ≡ 2
   pub two-out : Tabled N → length out ≢ (H + 1) * (N / 2 / 6) * 81 → pageCode N H x out ≡ 2
   pub three : Tabled N → Counted H → length x ≡ (H + 1) * (N / 2) → length out ≡ (H + 1) * (N / 2 / 6) * 81 → ¬ InRange x → pageCode N H x out ≡ 3
   pub taken : Tabled N → Counted H → length x ≡ (H + 1) * (N / 2) → length out ≡ (H + 1) * (N / 2 / 6) * 81 → InRange x → pageCode N H x out ≡ 0
-  pub kept : pageCode N H x out ≢ 0 → pageOut N H x out ≡ out
+  pub kept : pageCode N H x out ≢ 0 → pageOut order N H x out ≡ out
 
 -- ---- step tables and levels (P8). A table that is taken
 abbrev pub Ruled : ℕ → List ℕ → Type 0
@@ -264,7 +284,7 @@ pub record StateStepLevelsAnswers (state : List ℤ) (number left right : ℕ) (
   pub kept-state : L.stateCode state number left right text levels out ≢ 0 → L.stateAfter state number left right text levels out ≡ state
   pub kept : L.stateCode state number left right text levels out ≢ 0 → L.stateOut state number left right text levels out ≡ out
 
--- the calls for C answer as those above: their contracts are the same definitions, at a route by name, the told distance as `tell`, and on streams those of a state
+-- the calls for C answer as those above: their contracts are the same definitions, at a route by name and an order by its number, the told distance as `tell`, and on streams those of a state
 
 -- `table_report::report`, what the command step-table prints: for a length as it is typed, which is a number that names a tabled N, and the bytes of a table
 pub record Typed (number : List ℕ) (N : ℕ) : Type 0 where
@@ -312,6 +332,33 @@ pub record NameAnswers (N shape : ℕ) (first first′ second second′ : List �
   pub names : nameCode N shape first first′ second second′ place room ≡ 0 →
       let a = shareAnswer N shape first first′ second second′ place in (a .code ≡ 0) × (nameOut N shape first first′ second second′ place room ≡ cond (a .any) 1 0 ∷ a .block ∷ a .coefficient ∷ [])
   pub kept : nameCode N shape first first′ second second′ place room ≢ 0 → nameOut N shape first first′ second second′ place room ≡ room
+
+-- `largest_share_recording` (P10): the lengths, the hop and the place in it
+pub record PlacedIn (N H : ℕ) (X X′ : List ℤ) (hop place : ℕ) : Type 0 where
+  pub original-is : length X ≡ (H + 1) * (N / 2)
+  pub changed-is : length X′ ≡ (H + 1) * (N / 2)
+  pub hop-is : hop < H
+  pub place-is : place < N / 2
+
+pub record RecordingShareAnswers (order : Order) (N H : ℕ) (X X′ : List ℤ) (hop place : ℕ) : Type 0 where
+  pub one : ¬ Tabled N → recordingShare order N H X X′ hop place ≡ refusedWith 1
+  pub two-hops : Tabled N → ¬ Counted H → recordingShare order N H X X′ hop place ≡ refusedWith 2
+  pub two : Tabled N → ¬ PlacedIn N H X X′ hop place → recordingShare order N H X X′ hop place ≡ refusedWith 2
+  pub three : Tabled N → Counted H → PlacedIn N H X X′ hop place → ¬ (InRange X × InRange X′) → recordingShare order N H X X′ hop place ≡ refusedWith 3
+  pub taken : Tabled N → Counted H → PlacedIn N H X X′ hop place → InRange X → InRange X′ →
+      recordingShare order N H X X′ hop place ≡ answeredWith (numberedFrom hop (shareAt order N H X X′ hop place))
+
+-- `name_share_recording`, the same into room for three numbers, another length being 2, and the call for C
+pub record RecordingNameAnswers (order : Order) (N H : ℕ) (X X′ : List ℤ) (hop place : ℕ) (room : List ℕ) : Type 0 where
+  pub one : ¬ Tabled N → recordingNameCode N H X X′ hop place room ≡ 1
+  pub two-hops : Tabled N → ¬ Counted H → recordingNameCode N H X X′ hop place room ≡ 2
+  pub two : Tabled N → ¬ PlacedIn N H X X′ hop place → recordingNameCode N H X X′ hop place room ≡ 2
+  pub two-room : Tabled N → Counted H → PlacedIn N H X X′ hop place → length room ≢ 3 → recordingNameCode N H X X′ hop place room ≡ 2
+  pub three : Tabled N → Counted H → PlacedIn N H X X′ hop place → length room ≡ 3 → ¬ (InRange X × InRange X′) → recordingNameCode N H X X′ hop place room ≡ 3
+  pub taken : Tabled N → Counted H → PlacedIn N H X X′ hop place → length room ≡ 3 → InRange X → InRange X′ → recordingNameCode N H X X′ hop place room ≡ 0
+  pub names : recordingNameCode N H X X′ hop place room ≡ 0 →
+      let a = recordingShare order N H X X′ hop place in (a .code ≡ 0) × (recordingNameOut order N H X X′ hop place room ≡ cond (a .any) 1 0 ∷ a .block ∷ a .coefficient ∷ [])
+  pub kept : recordingNameCode N H X X′ hop place room ≢ 0 → recordingNameOut order N H X X′ hop place room ≡ room
 
 -- `listing::round_trip`: what it writes, for any bytes; a refusal is a line. Line 1 is a number that names a tabled N, and further lines stand behind it
 pub record Begun (text : List ℕ) (N : ℕ) (hops : List (List ℕ)) : Type 0 where

@@ -8,7 +8,6 @@ use lib.Dec.{T}
 use lib.ListN.{length}
 use lib.IntN.{ℤ, pos, natAbs, _-ℤ_, _+ℤ_}
 use Rattle.arithmetic.specs.Lists.{at, joined}
-use Rattle.arithmetic.specs.ListLaws.{part-at}
 use Rattle.arithmetic.specs.Rounding.{rnd, clamp, Sample}
 use Rattle.cosine.specs.Kernels.{tabled, rising, falling}
 use Rattle.transform.specs.Synthesis.{V′}
@@ -17,57 +16,46 @@ use Rattle.stream.specs.NextLaws.{returned-long, returned-at}
 use Rattle.analysis.specs.declared.Route.{Route}
 use Rattle.analysis.specs.declared.Route.the-variants.{Direct}
 use Rattle.analysis.specs.Analysis.{offered, coefficients}
-use Rattle.recording.specs.Recordings.{block, part, analysis, synthesis}
-use Rattle.arithmetic.specs.JoinLaws.{Place, within, joined-length, joined-at}
-use Rattle.analysis.specs.AnalysisLaws.{coefficients-length}
-use Rattle.recording.specs.RecordingLaws.{part-length-is}
+use Rattle.orders.specs.declared.Order.{Order}
+use Rattle.orders.specs.Orders.{place, part}
+use Rattle.orders.specs.OrderLaws.{part-at, part-long, laid-at}
+use Rattle.recording.specs.Recordings.{block, analysis, synthesis}
+use Rattle.arithmetic.specs.JoinLaws.{Place, joined-length, joined-at}
 use Rattle.block_calls.specs.AnalysisLaws.{analysed-offered, analyse-taken}
 use Rattle.arithmetic.specs.TestLaws.{is-T}
-use Rattle.recording_calls.specs.Recordings.{recordedCode, recordedOut, playedCode, playedOut, innerOf}
+use Rattle.recording_calls.specs.Recordings.{playedCode, playedOut, innerOf}
 use Rattle.checks.specs.LimitLaws.{counted-some}
 use Rattle.recording_calls.specs.RecordingLaws.{Recorded, recorded-facts, recorded-taken, Played, played-facts, played-taken, shaped-of}
 use Rattle.demands.specs.Steps.{Recording, Brought, provedChange}
 use Rattle.demands.specs.RecordingLaws.{hop-of, back-near, back-same, near-asked, restored}
 use Rattle.demands.specs.Recordings.{ByOneCall, BlockByBlock, Back, BackOneQ, SharperBack}
 
--- the M coefficients of block b, of those of a recording
-pub part-entry : (N H : ℕ) (X : List ℤ) → length X ≡ (H + 1) * (N / 2) → (b : ℕ) → b ≤ H → (k : ℕ) → k < N / 2 → at (part N X b) k ≡ at X (b * (N / 2) + k)
-unfolding part
-part-entry N H X long b p k q = part-at X (b * (N / 2)) (N / 2) (N / 2) (omega arith) (omega (arith, long, within b (H + 1) (N / 2) (omega arith))) k q
-
--- as many as an analysis leaves
-pub recorded-long : (route : Route) (N H : ℕ) (x out : List ℤ) → recordedCode route N H x out ≡ 0 → length (recordedOut route N H x out) ≡ (H + 1) * (N / 2)
-unfolding analysis
-recorded-long route N H x out e =
-    ap length (sym (recorded-taken route N H x out e .1))
-    ∙ joined-length (λ b. coefficients route N 0 0 (block N x b)) (N / 2) (H + 1) (λ b p. coefficients-length route N 0 0 (block N x b)) (H + 1) (omega arith)
-
 -- ---- what a synthesis left: the samples of hop h are what the tail of block h and block h + 1 give
-module _ (N H : ℕ) (X out : List ℤ) (played : playedCode N H X out ≡ 0) where
+module _ (order : Order) (N H : ℕ) (X out : List ℤ) (played : playedCode N H X out ≡ 0) where
   -- the coefficients of block b, and hop h as it comes back
   abbrev blocks : ℕ → List ℤ
-  blocks = part N X
+  blocks = part order (N / 2) (H + 1) X
 
   abbrev hops : ℕ → List ℤ
   hops h = returned N blocks (suc h)
 
-  left-is : playedOut N H X out ≡ joined H hops
+  left-is : playedOut order N H X out ≡ joined H hops
   unfolding synthesis
-  left-is = sym (played-taken N H X out played .1)
+  left-is = sym (played-taken order N H X out played .1)
 
-  left-long : length (playedOut N H X out) ≡ H * (N / 2)
+  left-long : length (playedOut order N H X out) ≡ H * (N / 2)
   left-long = ap length left-is ∙ joined-length hops (N / 2) H (λ h p. returned-long N blocks (suc h)) H (omega arith)
 
-  left-at : (h n : ℕ) → h < H → n < N / 2 →
-      at (playedOut N H X out) (h * (N / 2) + n) ≡ clamp (rnd (V′ N (rising 0 N) (falling 0 N) (blocks h) (N / 2 + n) +ℤ V′ N (rising 0 N) (falling 0 N) (blocks (suc h)) n) (N * 2 ^ 30))
+  pub left-at : (h n : ℕ) → h < H → n < N / 2 →
+      at (playedOut order N H X out) (h * (N / 2) + n) ≡ clamp (rnd (V′ N (rising 0 N) (falling 0 N) (blocks h) (N / 2 + n) +ℤ V′ N (rising 0 N) (falling 0 N) (blocks (suc h)) n) (N * 2 ^ 30))
   left-at h n p q =
       ap (λ (l : List ℤ). at l (h * (N / 2) + n)) left-is
       ∙ joined-at hops (N / 2) H (λ h p. returned-long N blocks (suc h)) (pos 0) H h n (omega arith) p q
       ∙ returned-at N blocks h n q
 
-module _ (N H : ℕ) (Q : ℕ → ℕ) (routes : ℕ → Route) (x X out : List ℤ) (rec : Recording N H x) (played : playedCode N H X out ≡ 0)
+module _ (N H : ℕ) (Q : ℕ → ℕ) (routes : ℕ → Route) (order : Order) (x X out : List ℤ) (rec : Recording N H x) (played : playedCode N H X out ≡ 0)
     (offers : (b : ℕ) → b ≤ H → T (offered (routes b) N))
-    (changed : (b : ℕ) → b ≤ H → (k : ℕ) → k < N / 2 → natAbs (at X (b * (N / 2) + k) -ℤ at (coefficients (routes b) N 0 0 (block N x b)) k) ≤ Q b) where
+    (changed : (b : ℕ) → b ≤ H → (k : ℕ) → k < N / 2 → natAbs (at X (place order (N / 2) (H + 1) b k) -ℤ at (coefficients (routes b) N 0 0 (block N x b)) k) ≤ Q b) where
   facts : Played N H X out
   facts = played-facts N H X out played
 
@@ -75,17 +63,17 @@ module _ (N H : ℕ) (Q : ℕ → ℕ) (routes : ℕ → Route) (x X out : List 
   tab = facts .length-is
 
   abbrev left : List ℤ
-  left = playedOut N H X out
+  left = playedOut order N H X out
 
   abbrev c : ℕ → List ℤ
-  c = part N X
+  c = part order (N / 2) (H + 1) X
 
   brought : (b : ℕ) → b ≤ H → Brought N H Q routes x b 0 0 (c b)
   brought b p = record {
     exists = p;
     offers = offers b p;
-    long = part-length-is N tab (H + 1) X (facts .long) (facts .range) b (omega arith);
-    near = λ k q. rw (part-entry N H X (facts .long) b p k q) (changed b p k q);
+    long = part-long (N / 2) (H + 1) order X b;
+    near = λ k q. rw (part-at (N / 2) (H + 1) order X b k q) (changed b p k q);
   }
 
   -- ---- sample i: hop h, place n
@@ -101,22 +89,22 @@ module _ (N H : ℕ) (Q : ℕ → ℕ) (routes : ℕ → Route) (x X out : List 
 
     near-at : natAbs (at left i -ℤ at x i) ≤ (3 * provedChange (Q h) (Q (suc h)) (routes h) (routes (suc h)) + 36) / 64
     near-at =
-        rw (ap (at left) (sym (lies .is)) ∙ left-at N H X out played h n (lies .before) (lies .less), ap (at x) (sym (lies .is)))
+        rw (ap (at left) (sym (lies .is)) ∙ left-at order N H X out played h n (lies .before) (lies .less), ap (at x) (sym (lies .is)))
         (back-near N tab H x rec Q routes h 0 0 0 (c h) (c (suc h)) (brought h (omega (arith, lies .before))) (brought (suc h) (lies .before)) n (lies .less))
 
     same-at : Q h ≤ 9 → Q (suc h) ≤ 9 → routes h ≡ Direct → routes (suc h) ≡ Direct → at left i ≡ at x i
     same-at q q′ e f =
         ap (at left) (sym (lies .is))
-        ∙ left-at N H X out played h n (lies .before) (lies .less)
+        ∙ left-at order N H X out played h n (lies .before) (lies .less)
         ∙ back-same N tab H x rec Q routes h 0 0 0 (c h) (c (suc h)) (brought h (omega (arith, lies .before))) (brought (suc h) (lies .before)) q q′ e f n (lies .less)
         ∙ ap (at x) (lies .is)
 
-  pub back : Back N H Q routes x (playedOut N H X out) × SharperBack N H Q routes x (playedOut N H X out)
+  pub back : Back N H Q routes x (playedOut order N H X out) × SharperBack N H Q routes x (playedOut order N H X out)
   unfolding innerOf
   back = (
     record {
-      long = left-long N H X out played;
-      inner = rw (shaped-of N tab H (facts .hops) (length left) (left-long N H X out played));
+      long = left-long order N H X out played;
+      inner = rw (shaped-of N tab H (facts .hops) (length left) (left-long order N H X out played));
       near = λ i p. near-asked (Q (i / (N / 2))) (Q (suc (i / (N / 2)))) (routes (i / (N / 2))) (routes (suc (i / (N / 2)))) (near-at i p);
       same = λ i p q q′ e f. same-at i p (omega arith) (omega arith) e f;
     },
@@ -129,21 +117,21 @@ back-one N H Q routes x out back = record { back = back; each = λ i p. restored
 
 -- ---- the theorems, each with what is proved beyond it
 -- one call analysed the recording, by either route; a second, which returned 0, synthesised the changed coefficients
-pub back-by-one-call : (N H : ℕ) (Q : ℕ → ℕ) (route : Route) (x X out : List ℤ) → ((i : ℕ) → i < length x → Sample (at x i)) → ByOneCall N H Q route x X →
-    playedCode N H X out ≡ 0 → Back N H Q (λ b. route) x (playedOut N H X out) × SharperBack N H Q (λ b. route) x (playedOut N H X out)
+pub back-by-one-call : (N H : ℕ) (Q : ℕ → ℕ) (route : Route) (order : Order) (x X out : List ℤ) → ((i : ℕ) → i < length x → Sample (at x i)) → ByOneCall N H Q route order x X →
+    playedCode N H X out ≡ 0 → Back N H Q (λ b. route) x (playedOut order N H X out) × SharperBack N H Q (λ b. route) x (playedOut order N H X out)
 unfolding analysis
-back-by-one-call N H Q route x X out samples given played =
+back-by-one-call N H Q route order x X out samples given played =
     let f : Recorded route N H x (given .buffer) = recorded-facts route N H x (given .buffer) (given .taken) in
-    let is = recorded-taken route N H x (given .buffer) (given .taken) .1 in
+    let is = recorded-taken route (given .filled) N H x (given .buffer) (given .taken) .1 in
     let rec : Recording N H x = record { hops = counted-some H (f .hops); long = f .long; sample = samples } in
-    back N H Q (λ b. route) x X out rec played (λ b p. is-T (f .offers))
+    back N H Q (λ b. route) order x X out rec played (λ b p. is-T (f .offers))
     (λ b p k q.
-    let e = joined-at (λ b. coefficients route N 0 0 (block N x b)) (N / 2) (H + 1) (λ b p. coefficients-length route N 0 0 (block N x b)) (pos 0) (H + 1) b k (omega arith) (omega arith) q in
+    let e = laid-at (N / 2) (H + 1) (given .filled) (λ b. coefficients route N 0 0 (block N x b)) b k (omega arith) q in
     rw e at (rw (← is) at (given .near b p k q)))
 
 -- the blocks were analysed one by one, each by its own route
-pub back-block-by-block : (N H : ℕ) (Q : ℕ → ℕ) (routes : ℕ → Route) (x X out : List ℤ) → Recording N H x → BlockByBlock N H Q routes x X →
-    playedCode N H X out ≡ 0 → Back N H Q routes x (playedOut N H X out) × SharperBack N H Q routes x (playedOut N H X out)
-back-block-by-block N H Q routes x X out rec given played =
-    back N H Q routes x X out rec played (λ b p. analysed-offered (routes b) N 0 0 (block N x b) (given .buffer b) (given .taken b p))
+pub back-block-by-block : (N H : ℕ) (Q : ℕ → ℕ) (routes : ℕ → Route) (order : Order) (x X out : List ℤ) → Recording N H x → BlockByBlock N H Q routes order x X →
+    playedCode N H X out ≡ 0 → Back N H Q routes x (playedOut order N H X out) × SharperBack N H Q routes x (playedOut order N H X out)
+back-block-by-block N H Q routes order x X out rec given played =
+    back N H Q routes order x X out rec played (λ b p. analysed-offered (routes b) N 0 0 (block N x b) (given .buffer b) (given .taken b p))
     (λ b p k q. rw (← (analyse-taken (routes b) N 0 0 (block N x b) (given .buffer b) (given .taken b p) .1)) at (given .near b p k q))

@@ -31,11 +31,14 @@ use Rattle.stream.specs.NextLaws.{Fine, hop-long, hop-at, next-n, next-expected
 use Rattle.analysis.specs.declared.Route.{Route}
 use Rattle.analysis.specs.declared.Route.the-variants.{Direct, Short}
 use Rattle.analysis.specs.Analysis.{offered, coefficients}
-use Rattle.recording.specs.Recordings.{block, part, analysis, synthesis}
+use Rattle.orders.specs.declared.Order.{Order}
+use Rattle.orders.specs.Orders.{part, laid}
+use Rattle.orders.specs.OrderLaws.{laid-long, part-laid, part-long, part-at}
+use Rattle.recording.specs.Recordings.{block, analysis, synthesis}
 use Rattle.recording.specs.BlockLaws.{block-long}
-use Rattle.arithmetic.specs.JoinLaws.{joined-front, joined-length, joined-part}
+use Rattle.arithmetic.specs.JoinLaws.{joined-front}
 use Rattle.analysis.specs.AnalysisLaws.{offered-tabled, coefficients-length}
-use Rattle.recording.specs.RecordingLaws.{part-length-is, part-range, stream-fine}
+use Rattle.recording.specs.RecordingLaws.{part-range, stream-fine}
 use Rattle.stream_calls.specs.declared.Made.{Made}
 use Rattle.block_calls.specs.Analysis.{analyseCauses, analyseCode, analyseOut}
 use Rattle.checks.specs.Causes.First.{none, pass}
@@ -50,7 +53,7 @@ use Rattle.page.specs.Page.{pageCode, pageOut}
 use Rattle.page.specs.PageLaws.{page-count, page-ended, page-long, byte-at, columns-at, no-feed-at, number-at, apart-at, block-at, blanks-at, page-only}
 use Rattle.page.specs.AnswerLaws.{Paged, page-facts, page-taken}
 use Rattle.demands.specs.MovedLaws.{levelled-on, restored-on, ruled-on}
-use Rattle.demands.specs.ExplainLaws.{explained-on}
+use Rattle.demands.specs.ExplainLaws.{explained-on, explained-in}
 use Rattle.demands.specs.StepLaws.{taken-stream, taken-buffer}
 use Rattle.demands.specs.RecordingLaws.{windowed, by-direct, by-short}
 use Rattle.demands.specs.Steps.{Offer, Turn, answered, run, turns, Entry}
@@ -59,8 +62,9 @@ use Rattle.demands.specs.RunLaws.{code, answered-code, no-entry}
 use Rattle.demands.specs.StreamLaws.{fresh-is}
 use Rattle.demands.specs.AnswerLaws.{demand-1}
 use Rattle.demands.specs.Recordings.{offering, outputs}
+use Rattle.demands.specs.OrderLaws.{alike-of}
 use Rattle.demands.specs.Answers.{SoundTail, Fitting}
-use Rattle.demands.specs.Demands.{window, y, X, V′, Analysed, Stepped-on, Recorded-on, Played-on, Paged-on, Demand-2}
+use Rattle.demands.specs.Demands.{window, y, X, V′, Analysed, Stepped-on, Recorded-on, Played-on, Alike, Paged-on, Demand-2}
 
 -- ---- the window is that of the definitions below, and with long joints it is W
 window-is : (N l r n : ℕ) → A.window N (rising l N) (falling r N) n ≡ window N l r n
@@ -146,74 +150,76 @@ long-shapes : areShapes 0 0 ≡ true
 unfolding areShapes
 long-shapes = refl
 
-recorded-on : (route : Route) (N H : ℕ) (x out : List ℤ) → recordedCode route N H x out ≡ 0 → Recorded-on route N H x out
-unfolding analysis part analyseCauses
-recorded-on route N H x out e =
+recorded-on : (route : Route) (order : Order) (N H : ℕ) (x out : List ℤ) → recordedCode route N H x out ≡ 0 → Recorded-on route order N H x out
+unfolding analysis analyseCauses
+recorded-on route order N H x out e =
     let f = recorded-facts route N H x out e in
     let t = offered-tabled route N (is-T (f .offers)) in
     let two : N / 2 + N / 2 ≡ N = omega (arith, length-of N t .twelve) in
     let g : ℕ → List ℤ = λ b. coefficients route N 0 0 (block N x b) in
-    let size : (b : ℕ) → b < H + 1 → length (g b) ≡ N / 2 = λ b p. coefficients-length route N 0 0 (block N x b) in
-    let is : recordedOut route N H x out ≡ joined (H + 1) g = sym (recorded-taken route N H x out e .1) in
+    let is : recordedOut route order N H x out ≡ laid order (N / 2) (H + 1) g = sym (recorded-taken route order N H x out e .1) in
     record {
-      long = rw is (joined-length g (N / 2) (H + 1) size (H + 1) (omega arith));
+      long = rw is (laid-long (N / 2) (H + 1) order g);
       each = λ b p room l.
           let z = sym (analyse-answer route N 0 0 (block N x b) room (pass (f .offers) (pass long-shapes (same (block-long N H two x (f .long) b p) (same l none)))) .0) in
-          (z, rw is (joined-part g (N / 2) (H + 1) size (H + 1) b (omega arith) (omega arith)) ∙ analyse-taken route N 0 0 (block N x b) room z .1);
+          (z, rw is (part-laid (N / 2) (H + 1) order g b (omega arith) (coefficients-length route N 0 0 (block N x b))) ∙ analyse-taken route N 0 0 (block N x b) room z .1);
     }
 
 -- ---- and a synthesis is the steps of a stream
-module _ (N H : ℕ) (x out : List ℤ) (e : playedCode N H x out ≡ 0) (rooms : ℕ → List ℤ) (fit : (b : ℕ) → b ≤ H → length (rooms b) ≡ N / 2) where
+module _ (order : Order) (N H : ℕ) (x out : List ℤ) (e : playedCode N H x out ≡ 0) (rooms : ℕ → List ℤ) (fit : (b : ℕ) → b ≤ H → length (rooms b) ≡ N / 2) where
   -- its blocks
   abbrev B : ℕ
   B = H + 1
+
+  abbrev c : ℕ → List ℤ
+  c = part order (N / 2) B x
 
   facts : Played N H x out
   facts = played-facts N H x out e
 
   offer-at : ℕ → Offer
-  offer-at b = record { number = b; left = 0; right = 0; brought = part N x b; buffer = rooms b }
+  offer-at b = record { number = b; left = 0; right = 0; brought = c b; buffer = rooms b }
 
   -- block b is taken by the stream after b steps
-  taken-at : (b : ℕ) → b < B → code (streamAfter N (part N x) b) (offer-at b) ≡ 0
+  taken-at : (b : ℕ) → b < B → code (streamAfter N c b) (offer-at b) ≡ 0
   unfolding offer-at tailLimit
   taken-at b p =
-      let s = streamAfter N (part N x) b in
-      let fine = stream-fine N (facts .length-is) B x (facts .long) (facts .range) b (omega arith) in
-      let l = part-length-is N (facts .length-is) B x (facts .long) (facts .range) b p in
-      demand-1 .stepped s b 0 0 (part N x b) (rooms b) .taken (fitting b fine) (rw (fine .n-is) l) (rw (fine .n-is) (fit b (omega arith)))
-      (record { each = part-range N (facts .length-is) B x (facts .long) (facts .range) b p .small })
+      let s = streamAfter N c b in
+      let fine = stream-fine N (facts .length-is) B order x (facts .long) (facts .range) b (omega arith) in
+      let l = part-long (N / 2) B order x b in
+      demand-1 .stepped s b 0 0 (c b) (rooms b) .taken (fitting b fine) (rw (fine .n-is) l) (rw (fine .n-is) (fit b (omega arith)))
+      (record { each = part-range N (facts .length-is) B order x (facts .long) (facts .range) b p .small })
     where
       sound-tail : (s : Stream) → s .n ≡ N → ((n : ℕ) → n < N / 2 → natAbs (at (s .tail) n) ≤ N / 2 * 2 ^ 55) → SoundTail s
       sound-tail s i h = record { each = rw i h }
 
-      fitting : (b : ℕ) → Fine N (streamAfter N (part N x) b) → Fitting (streamAfter N (part N x) b) b 0 0
+      fitting : (b : ℕ) → Fine N (streamAfter N c b) → Fitting (streamAfter N c b) b 0 0
       fitting b fine = record {
         length-is = rw (fine .n-is) (facts .length-is);
-        tail-is = sound-tail (streamAfter N (part N x) b) (fine .n-is) (fine .limited);
-        number-is = sym (stream-expected N (part N x) b);
+        tail-is = sound-tail (streamAfter N c b) (fine .n-is) (fine .limited);
+        number-is = sym (stream-expected N c b);
         shapes = record { left-is = omega arith; right-is = omega arith };
-        left-is = sym (stream-shape N (part N x) b);
+        left-is = sym (stream-shape N c b);
       }
 
-  output-is : (b : ℕ) → b < B → answered (streamAfter N (part N x) b) (offer-at b) .output ≡ returned N (part N x) b
+  output-is : (b : ℕ) → b < B → answered (streamAfter N c b) (offer-at b) .output ≡ returned N c b
   unfolding answered offer-at returned
-  output-is b p = taken-buffer (streamAfter N (part N x) b) b 0 0 (part N x b) (rooms b) (taken-at b p)
+  output-is b p = taken-buffer (streamAfter N c b) b 0 0 (c b) (rooms b) (taken-at b p)
 
-  stream-is : (b : ℕ) → b < B → answered (streamAfter N (part N x) b) (offer-at b) .answer .stream ≡ streamAfter N (part N x) (suc b)
+  stream-is : (b : ℕ) → b < B → answered (streamAfter N c b) (offer-at b) .answer .stream ≡ streamAfter N c (suc b)
   unfolding answered offer-at streamAfter
-  stream-is b p = taken-stream (streamAfter N (part N x) b) b 0 0 (part N x b) (rooms b) (taken-at b p)
+  stream-is b p = taken-stream (streamAfter N c b) b 0 0 (c b) (rooms b) (taken-at b p)
 
   -- the steps from block b on
   from : ℕ → ℕ → List Turn
-  from b count = run (streamAfter N (part N x) b) (offering N x rooms b count)
+  from b count = run (streamAfter N c b) (offering order N H x rooms b count)
 
-  from-next : (b count : ℕ) → b < B → from b (suc count) ≡ answered (streamAfter N (part N x) b) (offer-at b) ∷ from (suc b) count
+  from-next : (b count : ℕ) → b < B → from b (suc count) ≡ answered (streamAfter N c b) (offer-at b) ∷ from (suc b) count
   unfolding from offering run offer-at
-  from-next b count p = ap (λ (s : Stream). answered (streamAfter N (part N x) b) (offer-at b) ∷ run s (offering N x rooms (suc b) count)) (stream-is b p)
+  from-next b count p = ap (λ (s : Stream). answered (streamAfter N c b) (offer-at b) ∷ run s (offering order N H x rooms (suc b) count)) (stream-is b p)
 
   abbrev hops : ℕ → List ℤ
-  hops = returned N (part N x)
+  hops = returned N c
 
   joined-from : (count b : ℕ) → b + count ≡ B → joined B hops ≡ joined b hops ++ outputs (from b count)
   unfolding joined outputs from offering run
@@ -233,60 +239,64 @@ module _ (N H : ℕ) (x out : List ℤ) (e : playedCode N H x out ≡ 0) (rooms 
       less : b < B
       less = omega arith
 
-      go : {us : List Turn} {i : ℕ} {t : Turn} → Entry (answered (streamAfter N (part N x) b) (offer-at b) ∷ us) i t → ((i : ℕ) (t : Turn) → Entry us i t → t .answer .code ≡ 0) → t .answer .code ≡ 0
-      go first ih = answered-code (streamAfter N (part N x) b) (offer-at b) ∙ taken-at b less
+      go : {us : List Turn} {i : ℕ} {t : Turn} → Entry (answered (streamAfter N c b) (offer-at b) ∷ us) i t → ((i : ℕ) (t : Turn) → Entry us i t → t .answer .code ≡ 0) → t .answer .code ≡ 0
+      go first ih = answered-code (streamAfter N c b) (offer-at b) ∙ taken-at b less
       go {t = u} (later {i = k} l) ih = ih k u l
 
-  turns-are : turns N (offering N x rooms 0 B) ≡ from 0 B
+  turns-are : turns N (offering order N H x rooms 0 B) ≡ from 0 B
   unfolding turns from streamAfter
-  turns-are = ap (λ (m : Made). run (m .stream) (offering N x rooms 0 B)) (fresh-is N (facts .length-is))
+  turns-are = ap (λ (m : Made). run (m .stream) (offering order N H x rooms 0 B)) (fresh-is N (facts .length-is))
 
   -- the first hop that comes back is the run-in
-  all-but-first : synthesis N H x ≡ drop (N / 2) (joined B hops)
+  all-but-first : synthesis order N H x ≡ drop (N / 2) (joined B hops)
   unfolding synthesis
   all-but-first =
       let f : B ≡ suc H = omega arith in
-      sym (ap (λ (k : ℕ). drop (N / 2) (joined k hops)) f ∙ ap (drop (N / 2)) (joined-front H hops) ∙ drop-at (hops 0) (joined H (λ h. hops (suc h))) (N / 2) (returned-long N (part N x) 0))
+      sym (ap (λ (k : ℕ). drop (N / 2) (joined k hops)) f ∙ ap (drop (N / 2)) (joined-front H hops) ∙ drop-at (hops 0) (joined H (λ h. hops (suc h))) (N / 2) (returned-long N c 0))
 
-  played-on : Played-on N H x out rooms
+  played-on : Played-on order N H x out rooms
   unfolding joined
   played-on = record {
     taken = λ i t h. zero-from B 0 (omega arith) i t (rw turns-are at h);
-    hops = sym (played-taken N H x out e .1) ∙ all-but-first ∙ ap (drop (N / 2)) (joined-from B 0 (omega arith) ∙ ap outputs (sym turns-are));
+    hops = sym (played-taken order N H x out e .1) ∙ all-but-first ∙ ap (drop (N / 2)) (joined-from B 0 (omega arith) ∙ ap outputs (sym turns-are));
   }
 
 -- ---- a printed page
-module _ (N H : ℕ) (x : List ℤ) (out : List ℕ) (e : pageCode N H x out ≡ 0) where
+module _ (order : Order) (N H : ℕ) (x : List ℤ) (out : List ℕ) (e : pageCode N H x out ≡ 0) where
   paged : Paged N H x
   paged = page-facts N H x out e
 
   hops-most : H ≤ 4095
   hops-most = counted-most H (paged .hops)
 
-  paged-on : Paged-on N H x (pageOut N H x out)
+  paged-on : Paged-on order N H x (pageOut order N H x out)
   paged-on =
       let t = paged .length-is in
       let long = paged .long in
       let range = paged .range in
-      rw (page-taken N H x out e) (record {
+      rw (page-taken order N H x out e) (record {
         is = refl;
-        long = page-long N t H hops-most x long range;
-        byte = byte-at N t H hops-most x long range;
-        count = page-count N t H hops-most x long range;
-        ended = page-ended N t H hops-most x long range;
-        columns-long = columns-at N t H hops-most x long range;
-        no-feed = no-feed-at N t H hops-most x long range;
-        number = number-at N t H hops-most x long range;
-        apart = apart-at N t H hops-most x long range;
-        block = block-at N t H hops-most x long range;
-        blanks = blanks-at N t H hops-most x long range;
+        long = page-long order N t H hops-most x long range;
+        byte = byte-at order N t H hops-most x long range;
+        count = page-count order N t H hops-most x long range;
+        ended = page-ended order N t H hops-most x long range;
+        columns-long = columns-at order N t H hops-most x long range;
+        no-feed = no-feed-at order N t H hops-most x long range;
+        number = λ b j i p q r.
+            let n = number-at order N t H hops-most x long range b j i p q r in
+            (n .0, n .1 ∙ part-at (N / 2) (H + 1) order x b (6 * j + i) (omega (arith, length-of N t .twelve)));
+        apart = apart-at order N t H hops-most x long range;
+        block = block-at order N t H hops-most x long range;
+        blanks = blanks-at order N t H hops-most x long range;
       })
 
-two-pages : (N H : ℕ) (x y : List ℤ) (out out′ : List ℕ) → pageCode N H x out ≡ 0 → pageCode N H y out′ ≡ 0 → pageOut N H x out ≡ pageOut N H y out′ → x ≡ y
-two-pages N H x y out out′ e f same =
+two-pages : (order order′ : Order) (N H : ℕ) (x y : List ℤ) (out out′ : List ℕ) → pageCode N H x out ≡ 0 → pageCode N H y out′ ≡ 0 → pageOut order N H x out ≡ pageOut order′ N H y out′ →
+    Alike N H order order′ x y
+two-pages order order′ N H x y out out′ e f same =
     let p = page-facts N H x out e in
     let q = page-facts N H y out′ f in
-    page-only N (p .length-is) H (counted-most H (p .hops)) x y (p .long) (q .long) (p .range) (q .range) (sym (page-taken N H x out e) ∙ same ∙ page-taken N H y out′ f)
+    alike-of N H order order′ x y (p .long) (q .long)
+    (page-only order order′ N (p .length-is) H (counted-most H (p .hops)) x y (p .long) (q .long) (p .range) (q .range) (sym (page-taken order N H x out e) ∙ same ∙ page-taken order′ N H y out′ f))
 
 pub demand-2 : Demand-2
 demand-2 = record {
@@ -295,11 +305,12 @@ demand-2 = record {
   coefficient = analysed;
   stepped = stepped-on;
   recorded = recorded-on;
-  played = λ N H x out e rooms fit. played-on N H x out e rooms fit;
+  played = λ order N H x out e rooms fit. played-on order N H x out e rooms fit;
   paged = paged-on;
   pages = two-pages;
   ruled = ruled-on;
   quantised = levelled-on;
   dequantised = restored-on;
   explained = explained-on;
+  explained-in = explained-in;
 }

@@ -1,9 +1,10 @@
--- The three demands, proved: `demand-1`, `demand-2` and `demand-3` are the records of Demands, `levels-kept` is that of levels, and `beyond` what is proved beyond the third.
+-- The three demands, proved: `demand-1`, `demand-2` and `demand-3` are the records of Demands, `either-order` is that of orders, `levels-kept` is that of levels, and `beyond` what is proved beyond the third.
 use Rattle.recording_calls.specs.Recordings.{playedOut}
-use Rattle.demands.specs.Demands.{Demand-1, Demand-2, OneQ, Demand-3, Levels-kept, Beyond}
+use Rattle.demands.specs.Demands.{Demand-1, Demand-2, Either-order, OneQ, Demand-3, Levels-kept, Beyond}
 use Rattle.demands.specs.RecordingLaws.{proved-one}
 use Rattle.demands.specs.AnswerLaws as Answers
 use Rattle.demands.specs.DefinitionLaws as Definitions
+use Rattle.demands.specs.OrderLaws as Orders
 use Rattle.demands.specs.ThereAndBackLaws.{every-list, there-and-back, whole-returned, returned-one, there-and-back-sharper}
 use Rattle.demands.specs.ChainLaws.{calls-answered, calls-there-and-back, calls-whole, calls-one, calls-sharper}
 use Rattle.demands.specs.MovedLaws as Moved
@@ -17,12 +18,15 @@ demand-1 = Answers.demand-1
 pub demand-2 : Demand-2
 demand-2 = Definitions.demand-2
 
+pub either-order : Either-order
+either-order = Orders.either-order
+
 one-Q : OneQ
 one-Q = record {
   list = returned-one;
   calls = λ N state z H Q routes x rec offers numbered. calls-one N state z offers H Q routes x rec numbered;
-  once = λ N H Q route x c out s g e. back-one N H Q (λ b. route) x (playedOut N H c out) (back-by-one-call N H (λ b. Q) route x c out s g e .0);
-  blocks = λ N H Q routes x c out r g e. back-one N H Q routes x (playedOut N H c out) (back-block-by-block N H (λ b. Q) routes x c out r g e .0);
+  once = λ N H Q route order x c out s g e. back-one N H Q (λ b. route) x (playedOut order N H c out) (back-by-one-call N H (λ b. Q) route order x c out s g e .0);
+  blocks = λ N H Q routes order x c out r g e. back-one N H Q routes x (playedOut order N H c out) (back-block-by-block N H (λ b. Q) routes order x c out r g e .0);
 }
 
 pub demand-3 : Demand-3
@@ -32,8 +36,8 @@ demand-3 = record {
   list = there-and-back;
   whole = whole-returned;
   calls = λ N state z H Q routes x rec offers numbered. (calls-there-and-back N state z offers H Q routes x rec numbered, calls-whole N state z offers H Q routes x rec numbered);
-  once = λ N H Q route x c out s g e. back-by-one-call N H Q route x c out s g e .0;
-  blocks = λ N H Q routes x c out r g e. back-block-by-block N H Q routes x c out r g e .0;
+  once = λ N H Q route order x c out s g e. back-by-one-call N H Q route order x c out s g e .0;
+  blocks = λ N H Q routes order x c out r g e. back-block-by-block N H Q routes order x c out r g e .0;
   one-Q = one-Q;
 }
 
@@ -49,14 +53,14 @@ levels-kept = record {
   levels = λ N t H tables routes x rec offers given. StoredLists.loads-kept N t offers H tables routes x rec given;
   level-calls = λ N state z H tables routes x rec offers given. StoredLists.load-calls-kept N state z offers H tables routes x rec given;
   once = Stored.stored-once;
-  blocks = λ N H tables routes x c out z rec given. Stored.stored-back N H tables routes x c out z rec given;
+  blocks = λ N H tables routes order x c out z rec given. Stored.stored-back N H tables routes order x c out z rec given;
 }
 
 pub beyond : Beyond
 beyond = record {
   list = there-and-back-sharper;
   calls = λ N state z H Q routes x rec offers numbered. calls-sharper N state z offers H Q routes x rec numbered;
-  once = λ N H Q route x c out s g e. back-by-one-call N H Q route x c out s g e .1;
-  blocks = λ N H Q routes x c out r g e. back-block-by-block N H Q routes x c out r g e .1;
+  once = λ N H Q route order x c out s g e. back-by-one-call N H Q route order x c out s g e .1;
+  blocks = λ N H Q routes order x c out r g e. back-block-by-block N H Q routes order x c out r g e .1;
   one = proved-one;
 }

@@ -1,5 +1,5 @@
 -- THE THREE DEMANDS, for every signal, over the definitions that the contracts of the public calls cite (specs/ of block_calls, stream_calls,
--- state_calls, recording_calls, level_calls, share_calls, page and listing). Each record below is one demand or a part of it; the theorems `demand-1`, `demand-2`, `demand-3`, `levels-kept` and `beyond` of DemandLaws prove them.
+-- state_calls, recording_calls, level_calls, share_calls, page, listing and, for an order's number, orders). Each record below is one demand or a part of it; the theorems `demand-1`, `demand-2`, `either-order`, `demand-3`, `levels-kept` and `beyond` of DemandLaws prove them.
 --
 -- What the contracts add: a call ends on any numbers and any buffer lengths and never overflows, and what it returns and leaves is what these
 -- definitions say. A check of the public calls' crates proves that of the code.
@@ -18,10 +18,12 @@ use Rattle.split.specs.ShortRoute.{shortX, units}
 use Rattle.stream.specs.declared.Stream.{Stream}
 use Rattle.analysis.specs.declared.Route.{Route}
 use Rattle.analysis.specs.declared.Route.the-variants.{Direct, Short}
-use Rattle.recording.specs.Recordings.{block, part}
+use Rattle.orders.specs.declared.Order.{Order}
+use Rattle.orders.specs.Orders.{place, part, other}
+use Rattle.recording.specs.Recordings.{block}
 use Rattle.block_calls.specs.Analysis.{analyseCode, analyseOut}
 use Rattle.stream_calls.specs.Streams.{stepCode, step, stepOut}
-use Rattle.recording_calls.specs.Recordings.{recordedCode, recordedOut, playedCode, playedOut}
+use Rattle.recording_calls.specs.Recordings.{recordedCode, recordedOut, playedCode, playedOut, reorderCode, reorderOut}
 use Rattle.state_calls.specs.States.{freshCode, freshState}
 use Rattle.steps.specs.Table.{rowOf, stepAt, Covered, coarsest}
 use Rattle.levels.specs.Levels.{clipped}
@@ -30,6 +32,7 @@ use Rattle.level_calls.specs.LevelCalls.{quantiseCode, quantiseOut, dequantiseC
 use Rattle.shares.specs.Shares.{earlier, later, shareIn, Before}
 use Rattle.share_calls.specs.declared.Share.{Share}
 use Rattle.share_calls.specs.ShareCalls.{shareAnswer}
+use Rattle.share_calls.specs.RecordingShares.{recordingShare, recordingNameCode, recordingNameOut}
 use Rattle.text.specs.Bytes.{lineFeed, blank}
 use Rattle.text.specs.Number.{isNumber}
 use Rattle.text.specs.Lines.{indexOf, lines, remainder}
@@ -40,9 +43,9 @@ use Rattle.demands.specs.Chains.{calls, held}
 use Rattle.demands.specs.Stored.{Stored, StoredBlocks, StoredOnce, StoredReturned, StoredBack}
 use Rattle.demands.specs.StoredLists.{LoadOffer, loadTurns, loadFinal, loadCalls, loadHeld, asTurns, StoredLoads}
 use Rattle.demands.specs.Recordings.{ByOneCall, BlockByBlock, Back, BackOneQ, SharperBack, offering, outputs}
-use Rattle.demands.specs.Answers.{Tabled, InRange, AnalyseAnswers, FreshAnswers, StepAnswers, StateFreshAnswers, StateStepAnswers, RecordedAnswers, PlayedAnswers, InnerAnswers, PageAnswers, Ruled, TableAnswers, ShareAnswers, NameAnswers, QuantiseAnswers, DequantiseAnswers, ToldAnswers, TellAnswers, StepLevelsAnswers, StateStepLevelsAnswers, ReportAnswers, ListingAnswers}
+use Rattle.demands.specs.Answers.{Tabled, InRange, AnalyseAnswers, FreshAnswers, StepAnswers, StateFreshAnswers, StateStepAnswers, RecordedAnswers, PlayedAnswers, ReorderAnswers, NumberAnswers, InnerAnswers, PageAnswers, Ruled, TableAnswers, ShareAnswers, NameAnswers, RecordingShareAnswers, RecordingNameAnswers, QuantiseAnswers, DequantiseAnswers, ToldAnswers, TellAnswers, StepLevelsAnswers, StateStepLevelsAnswers, ReportAnswers, ListingAnswers}
 
--- ================ DEMAND 1: the whole work, or the numbered refusal of document 01, for recordings, pages, numbered blocks, joints, step tables and shares as document 02, P1, P2, P6, P7, P8 and P9, has it, at P4's six lengths, the short route at four, with stream and buffers as they were
+-- ================ DEMAND 1: the whole work, or the numbered refusal of document 01, for recordings, pages, numbered blocks, joints, step tables, shares and orders as document 02, P1, P2, P6, P7, P8, P9 and P10, has it, at P4's six lengths, the short route at four, with stream and buffers as they were
 -- each call's record is in Answers: its number by the causes, and what a refusal leaves
 pub record Demand-1 : Type 0 where
   pub analyse : (route : Route) (N left right : ℕ) (x out : List ℤ) → AnalyseAnswers route N left right x out
@@ -53,10 +56,12 @@ pub record Demand-1 : Type 0 where
       let s′ = step s 4294967295 l r x out .stream in (stepCode s′ number l′ r′ y room ≡ 7) × (L.stepCode s′ number l′ r′ text y room ≡ 7)
   pub state-made : (N : ℕ) (state : List ℤ) → StateFreshAnswers N state
   pub state-stepped : (state : List ℤ) (number left right : ℕ) (x out : List ℤ) → StateStepAnswers state number left right x out
-  pub recorded : (route : Route) (N H : ℕ) (x out : List ℤ) → RecordedAnswers route N H x out
-  pub played : (N H : ℕ) (x out : List ℤ) → PlayedAnswers N H x out
+  pub recorded : (route : Route) (order : Order) (N H : ℕ) (x out : List ℤ) → RecordedAnswers route order N H x out
+  pub played : (order : Order) (N H : ℕ) (x out : List ℤ) → PlayedAnswers order N H x out
   pub inner : (N H : ℕ) (out : List ℤ) → InnerAnswers N H out
-  pub paged : (N H : ℕ) (x : List ℤ) (out : List ℕ) → PageAnswers N H x out
+  pub reordered : (to : Order) (N H : ℕ) (x out : List ℤ) → ReorderAnswers to N H x out
+  pub numbered : (order H : ℕ) → NumberAnswers order H
+  pub paged : (order : Order) (N H : ℕ) (x : List ℤ) (out : List ℕ) → PageAnswers order N H x out
   pub listed : (text : List ℕ) → ListingAnswers text
   pub ruled : (M : ℕ) (text : List ℕ) → TableAnswers M text
   pub quantised : (N : ℕ) (text : List ℕ) (x levels : List ℤ) → QuantiseAnswers N text x levels
@@ -66,6 +71,8 @@ pub record Demand-1 : Type 0 where
   pub reported : (number text : List ℕ) → ReportAnswers number text
   pub shared : (N shape : ℕ) (first first′ second second′ : List ℤ) (place : ℕ) → ShareAnswers N shape first first′ second second′ place
   pub shared-in : (N shape : ℕ) (first first′ second second′ : List ℤ) (place : ℕ) (room : List ℕ) → NameAnswers N shape first first′ second second′ place room
+  pub shared-recording : (order : Order) (N H : ℕ) (X X′ : List ℤ) (hop place : ℕ) → RecordingShareAnswers order N H X X′ hop place
+  pub shared-recording-in : (order : Order) (N H : ℕ) (X X′ : List ℤ) (hop place : ℕ) (room : List ℕ) → RecordingNameAnswers order N H X X′ hop place room
   pub stepped-levels : (s : Stream) (number left right : ℕ) (text : List ℕ) (levels out : List ℤ) → StepLevelsAnswers s number left right text levels out
   pub state-stepped-levels : (state : List ℤ) (number left right : ℕ) (text : List ℕ) (levels out : List ℤ) → StateStepLevelsAnswers state number left right text levels out
 
@@ -106,29 +113,35 @@ pub record Stepped-on (s : Stream) (number left right : ℕ) (x out : List ℤ) 
   pub storage : drop (s .n / 2) (step s number left right x out .stream .tail) ≡ drop (s .n / 2) (s .tail)
 
 -- the calls over recordings are the single-block calls and the stream, block by block, with long joints
-pub record Recorded-on (route : Route) (N H : ℕ) (x out : List ℤ) : Type 0 where
-  pub long : length (recordedOut route N H x out) ≡ (H + 1) * (N / 2)
+pub record Recorded-on (route : Route) (order : Order) (N H : ℕ) (x out : List ℤ) : Type 0 where
+  pub long : length (recordedOut route order N H x out) ≡ (H + 1) * (N / 2)
   pub each : (b : ℕ) → b ≤ H → (room : List ℤ) → length room ≡ N / 2 →
-      (analyseCode route N 0 0 (block N x b) room ≡ 0) × (part N (recordedOut route N H x out) b ≡ analyseOut route N 0 0 (block N x b) room)
+      (analyseCode route N 0 0 (block N x b) room ≡ 0) × (part order (N / 2) (H + 1) (recordedOut route order N H x out) b ≡ analyseOut route N 0 0 (block N x b) room)
 
 -- every block is taken, under its number; what comes back is what the steps return, without the run-in
-pub record Played-on (N H : ℕ) (x out : List ℤ) (rooms : ℕ → List ℤ) : Type 0 where
-  pub taken : (i : ℕ) (t : Turn) → Entry (turns N (offering N x rooms 0 (H + 1))) i t → t .answer .code ≡ 0
-  pub hops : playedOut N H x out ≡ drop (N / 2) (outputs (turns N (offering N x rooms 0 (H + 1))))
+pub record Played-on (order : Order) (N H : ℕ) (x out : List ℤ) (rooms : ℕ → List ℤ) : Type 0 where
+  pub taken : (i : ℕ) (t : Turn) → Entry (turns N (offering order N H x rooms 0 (H + 1))) i t → t .answer .code ≡ 0
+  pub hops : playedOut order N H x out ≡ drop (N / 2) (outputs (turns N (offering order N H x rooms 0 (H + 1))))
+
+-- two lists of a recording's coefficients, each in its order, in which coefficient k of block b is the same number, for every k and b
+pub record Alike (N H : ℕ) (order order′ : Order) (X Y : List ℤ) : Type 0 where
+  pub long : length X ≡ (H + 1) * (N / 2)
+  pub long′ : length Y ≡ (H + 1) * (N / 2)
+  pub each : (b k : ℕ) → b ≤ H → k < N / 2 → at X (place order (N / 2) (H + 1) b k) ≡ at Y (place order′ (N / 2) (H + 1) b k)
 
 -- a page that was printed, of coefficients x: it is the page of document 02, P2, whatever the buffer held, with 81 bytes for each line. It has M / 6 lines for each
 -- block, each of 80 columns, none of them a line feed, and a line feed behind. Number i of line j of block b is a well-formed number of at most nine digits, and is
 -- X(6j + i); two blanks stand in front of it. Columns 1 to 8 of a block's first line are its number, those of its other lines are blanks
-pub record Paged-on (N H : ℕ) (x : List ℤ) (page : List ℕ) : Type 0 where
-  pub is : page ≡ pageOf N H x
+pub record Paged-on (order : Order) (N H : ℕ) (x : List ℤ) (page : List ℕ) : Type 0 where
+  pub is : page ≡ pageOf order N H x
   pub long : length page ≡ (H + 1) * (N / 2 / 6) * 81
-  pub byte : (b j i : ℕ) → b ≤ H → j < N / 2 / 6 → i < 81 → getD page ((b * (N / 2 / 6) + j) * 81 + i) 0 ≡ getD (columns b (part N x b) j ++ (lineFeed ∷ [])) i 0
+  pub byte : (b j i : ℕ) → b ≤ H → j < N / 2 / 6 → i < 81 → getD page ((b * (N / 2 / 6) + j) * 81 + i) 0 ≡ getD (columns b (part order (N / 2) (H + 1) x b) j ++ (lineFeed ∷ [])) i 0
   pub count : length (lines page) ≡ (H + 1) * (N / 2 / 6)
   pub ended : remainder page ≡ []
   pub columns-long : (b j : ℕ) → b ≤ H → j < N / 2 / 6 → length (getD (lines page) (b * (N / 2 / 6) + j) []) ≡ 80
   pub no-feed : (b j : ℕ) → b ≤ H → j < N / 2 / 6 → indexOf lineFeed (getD (lines page) (b * (N / 2 / 6) + j) []) ≡ 80
   pub number : (b j i : ℕ) → b ≤ H → j < N / 2 / 6 → i < 6 →
-      T (isNumber 9 (numberText (getD (lines page) (b * (N / 2 / 6) + j) []) i)) × (numberIn (getD (lines page) (b * (N / 2 / 6) + j) []) i ≡ at x (b * (N / 2) + (6 * j + i)))
+      T (isNumber 9 (numberText (getD (lines page) (b * (N / 2 / 6) + j) []) i)) × (numberIn (getD (lines page) (b * (N / 2 / 6) + j) []) i ≡ at x (place order (N / 2) (H + 1) b (6 * j + i)))
   pub apart : (b j i : ℕ) → b ≤ H → j < N / 2 / 6 → i < 6 → take 2 (drop (8 + 12 * i) (getD (lines page) (b * (N / 2 / 6) + j) [])) ≡ replicate 2 blank
   pub block : (b : ℕ) → b ≤ H → T (isNumber 4 (blockText (getD (lines page) (b * (N / 2 / 6)) []))) × (blockIn (getD (lines page) (b * (N / 2 / 6)) []) ≡ pos b)
   pub blanks : (b j : ℕ) → b ≤ H → suc j < N / 2 / 6 → take 8 (getD (lines page) (b * (N / 2 / 6) + suc j) []) ≡ replicate 8 blank
@@ -180,22 +193,61 @@ pub record Explained-on (N shape : ℕ) (first first′ second second′ : List 
   pub zero-all : a .any ≡ false → (j k : ℕ) → j < 2 → k < N / 2 → shareOn N shape first first′ second second′ place j k ≡ 0
   pub same : a .any ≡ false → (hop hop′ : List ℤ) → Covering N shape first second hop → Covering N shape first′ second′ hop′ → at hop place ≡ at hop′ place
 
+-- which coefficient moved a sample of a recording (P10): what is said of the two blocks that cover hop h, h and h + 1, with a long joint between them; the block by its number in the recording. Where
+-- none is named, the synthesis of the changed coefficients has the same sample there as that of the original ones
+pub record Explained-in (order : Order) (N H : ℕ) (X X′ : List ℤ) (hop place : ℕ) (a : Share) : Type 0 where
+  pub between : Share
+  pub between-taken : between .code ≡ 0
+  pub between-is : between ≡
+      shareAnswer N 0 (part order (N / 2) (H + 1) X hop) (part order (N / 2) (H + 1) X′ hop) (part order (N / 2) (H + 1) X (suc hop)) (part order (N / 2) (H + 1) X′ (suc hop)) place
+  pub explained :
+      Explained-on N 0 (part order (N / 2) (H + 1) X hop) (part order (N / 2) (H + 1) X′ hop) (part order (N / 2) (H + 1) X (suc hop)) (part order (N / 2) (H + 1) X′ (suc hop)) place between
+  pub any-is : a .any ≡ between .any
+  pub block-is : a .any ≡ true → a .block ≡ hop + between .block
+  pub coefficient-is : a .coefficient ≡ between .coefficient
+  pub same : a .any ≡ false → (out out′ : List ℤ) → playedCode N H X out ≡ 0 → playedCode N H X′ out′ ≡ 0 →
+      at (playedOut order N H X out) (hop * (N / 2) + place) ≡ at (playedOut order N H X′ out′) (hop * (N / 2) + place)
+
 pub record Demand-2 : Type 0 where
   -- a window of long joints is document 01's W
   pub long-window : (N n : ℕ) → n < N → window N 0 0 n ≡ W N n
   pub analysed : (route : Route) (N left right : ℕ) (x out : List ℤ) → analyseCode route N left right x out ≡ 0 → length (analyseOut route N left right x out) ≡ N / 2
   pub coefficient : (N left right : ℕ) (x out : List ℤ) (k : ℕ) → k < N / 2 → Analysed N left right x out k
   pub stepped : (s : Stream) (number left right : ℕ) (x out : List ℤ) → stepCode s number left right x out ≡ 0 → Stepped-on s number left right x out
-  pub recorded : (route : Route) (N H : ℕ) (x out : List ℤ) → recordedCode route N H x out ≡ 0 → Recorded-on route N H x out
-  pub played : (N H : ℕ) (x out : List ℤ) → playedCode N H x out ≡ 0 → (rooms : ℕ → List ℤ) → ((b : ℕ) → b ≤ H → length (rooms b) ≡ N / 2) → Played-on N H x out rooms
-  pub paged : (N H : ℕ) (x : List ℤ) (out : List ℕ) → pageCode N H x out ≡ 0 → Paged-on N H x (pageOut N H x out)
+  pub recorded : (route : Route) (order : Order) (N H : ℕ) (x out : List ℤ) → recordedCode route N H x out ≡ 0 → Recorded-on route order N H x out
+  pub played : (order : Order) (N H : ℕ) (x out : List ℤ) → playedCode N H x out ≡ 0 → (rooms : ℕ → List ℤ) → ((b : ℕ) → b ≤ H → length (rooms b) ≡ N / 2) → Played-on order N H x out rooms
+  pub paged : (order : Order) (N H : ℕ) (x : List ℤ) (out : List ℕ) → pageCode N H x out ≡ 0 → Paged-on order N H x (pageOut order N H x out)
   pub ruled : (N : ℕ) (text : List ℕ) → Tabled N → Ruled N text → (k : ℕ) → k < N / 2 → Ruled-on (N / 2) text k
   pub quantised : (N : ℕ) (text : List ℕ) (x levels : List ℤ) → quantiseCode N text x levels ≡ 0 → Levelled-on N text x levels
   pub dequantised : (N : ℕ) (text : List ℕ) (levels out : List ℤ) → dequantiseCode N text levels out ≡ 0 → Restored-on N text levels out
   pub explained : (N shape : ℕ) (first first′ second second′ : List ℤ) (place : ℕ) → shareAnswer N shape first first′ second second′ place .code ≡ 0 →
       Explained-on N shape first first′ second second′ place (shareAnswer N shape first first′ second second′ place)
-  -- two different sets of coefficients give two different pages
-  pub pages : (N H : ℕ) (x y : List ℤ) (out out′ : List ℕ) → pageCode N H x out ≡ 0 → pageCode N H y out′ ≡ 0 → pageOut N H x out ≡ pageOut N H y out′ → x ≡ y
+  pub explained-in : (order : Order) (N H : ℕ) (X X′ : List ℤ) (hop place : ℕ) → recordingShare order N H X X′ hop place .code ≡ 0 → Explained-in order N H X X′ hop place (recordingShare order N H X X′ hop place)
+  -- two different sets of coefficients give two different pages, in whatever orders they lie
+  pub pages : (order order′ : Order) (N H : ℕ) (x y : List ℤ) (out out′ : List ℕ) → pageCode N H x out ≡ 0 → pageCode N H y out′ ≡ 0 → pageOut order N H x out ≡ pageOut order′ N H y out′ →
+      Alike N H order order′ x y
+
+-- ================ ORDERS (P10): 'every call over recordings gives the same samples, pages and explanations from either order in memory, and each order is obtained from the other without loss'
+pub record Either-order : Type 0 where
+  -- what a call gives depends on coefficient k of block b, for each of them, and not on where it lies: its number, and what it leaves
+  pub samples : {N H : ℕ} {order order′ : Order} {X Y : List ℤ} → Alike N H order order′ X Y → (out : List ℤ) →
+      (playedCode N H X out ≡ playedCode N H Y out) × (playedOut order N H X out ≡ playedOut order′ N H Y out)
+  pub pages : {N H : ℕ} {order order′ : Order} {X Y : List ℤ} → Alike N H order order′ X Y → (out : List ℕ) →
+      (pageCode N H X out ≡ pageCode N H Y out) × (pageOut order N H X out ≡ pageOut order′ N H Y out)
+  pub explanations : {N H : ℕ} {order order′ : Order} {X X′ Y Y′ : List ℤ} → Alike N H order order′ X Y → Alike N H order order′ X′ Y′ → (hop place : ℕ) →
+      recordingShare order N H X X′ hop place ≡ recordingShare order′ N H Y Y′ hop place
+  pub names : {N H : ℕ} {order order′ : Order} {X X′ Y Y′ : List ℤ} → Alike N H order order′ X Y → Alike N H order order′ X′ Y′ → (hop place : ℕ) (room : List ℕ) →
+      (recordingNameCode N H X X′ hop place room ≡ recordingNameCode N H Y Y′ hop place room) × (recordingNameOut order N H X X′ hop place room ≡ recordingNameOut order′ N H Y Y′ hop place room)
+  -- in one order they are one list
+  pub alone : {N H : ℕ} {order : Order} {X Y : List ℤ} → Alike N H order order X Y → X ≡ Y
+  -- an analysis fills either order with the same coefficients
+  pub analyses : (route : Route) (order order′ : Order) (N H : ℕ) (x out out′ : List ℤ) → recordedCode route N H x out ≡ 0 → recordedCode route N H x out′ ≡ 0 →
+      Alike N H order order′ (recordedOut route order N H x out) (recordedOut route order′ N H x out′)
+  -- so does `reorder`, which takes what it gave, and gives back what it took: both ways, as `to` is either
+  pub reordered : (to : Order) (N H : ℕ) (X out : List ℤ) → reorderCode N H X out ≡ 0 → Alike N H to (other to) (reorderOut to N H X out) X
+  pub taken-back : (to : Order) (N H : ℕ) (X out back : List ℤ) → reorderCode N H X out ≡ 0 → length back ≡ (H + 1) * (N / 2) → reorderCode N H (reorderOut to N H X out) back ≡ 0
+  pub there-and-back : (to : Order) (N H : ℕ) (X out back : List ℤ) → reorderCode N H X out ≡ 0 → reorderCode N H (reorderOut to N H X out) back ≡ 0 →
+      reorderOut (other to) N H (reorderOut to N H X out) back ≡ X
 
 -- ================ DEMAND 3: sound there and back, of a recording as P1 has it, its blocks offered in any order and each known by its number (P6), in any mixture of shapes (P7)
 -- in document 01's words, with one Q for all blocks: of a list of steps, by value and on one state, and of the calls over whole recordings
@@ -204,10 +256,10 @@ pub record OneQ : Type 0 where
       ReturnedOneQ N H Q routes x (turns N offers) (final N offers)
   pub calls : (N : ℕ) (state : List ℤ) → freshCode N state ≡ 0 → (H Q : ℕ) (routes : ℕ → Route) (x : List ℤ) → Recording N H x → (offers : List Offer) →
       Numbered N H (λ b. Q) routes x (calls (freshState N state) offers) → ReturnedOneQ N H Q routes x (calls (freshState N state) offers) (held (freshState N state) offers)
-  pub once : (N H Q : ℕ) (route : Route) (x c out : List ℤ) → ((i : ℕ) → i < length x → Sample (at x i)) → ByOneCall N H (λ b. Q) route x c → playedCode N H c out ≡ 0 →
-      BackOneQ N H Q (λ b. route) x (playedOut N H c out)
-  pub blocks : (N H Q : ℕ) (routes : ℕ → Route) (x c out : List ℤ) → Recording N H x → BlockByBlock N H (λ b. Q) routes x c → playedCode N H c out ≡ 0 →
-      BackOneQ N H Q routes x (playedOut N H c out)
+  pub once : (N H Q : ℕ) (route : Route) (order : Order) (x c out : List ℤ) → ((i : ℕ) → i < length x → Sample (at x i)) → ByOneCall N H (λ b. Q) route order x c → playedCode N H c out ≡ 0 →
+      BackOneQ N H Q (λ b. route) x (playedOut order N H c out)
+  pub blocks : (N H Q : ℕ) (routes : ℕ → Route) (order : Order) (x c out : List ℤ) → Recording N H x → BlockByBlock N H (λ b. Q) routes order x c → playedCode N H c out ≡ 0 →
+      BackOneQ N H Q routes x (playedOut order N H c out)
 
 pub record Demand-3 : Type 0 where
   -- every list of steps, whatever they bring, by value and on one state
@@ -224,10 +276,10 @@ pub record Demand-3 : Type 0 where
       Numbered N H Q routes x (calls (freshState N state) offers) →
       Returned N Q routes x (calls (freshState N state) offers) (held (freshState N state) offers) × WholeReturned N H Q routes x (calls (freshState N state) offers)
   -- the calls over whole recordings: analysed by one call, and block by block
-  pub once : (N H : ℕ) (Q : ℕ → ℕ) (route : Route) (x c out : List ℤ) → ((i : ℕ) → i < length x → Sample (at x i)) → ByOneCall N H Q route x c → playedCode N H c out ≡ 0 →
-      Back N H Q (λ b. route) x (playedOut N H c out)
-  pub blocks : (N H : ℕ) (Q : ℕ → ℕ) (routes : ℕ → Route) (x c out : List ℤ) → Recording N H x → BlockByBlock N H Q routes x c → playedCode N H c out ≡ 0 →
-      Back N H Q routes x (playedOut N H c out)
+  pub once : (N H : ℕ) (Q : ℕ → ℕ) (route : Route) (order : Order) (x c out : List ℤ) → ((i : ℕ) → i < length x → Sample (at x i)) → ByOneCall N H Q route order x c → playedCode N H c out ≡ 0 →
+      Back N H Q (λ b. route) x (playedOut order N H c out)
+  pub blocks : (N H : ℕ) (Q : ℕ → ℕ) (routes : ℕ → Route) (order : Order) (x c out : List ℤ) → Recording N H x → BlockByBlock N H Q routes order x c → playedCode N H c out ≡ 0 →
+      Back N H Q routes x (playedOut order N H c out)
   -- and all of it in document 01's words, with one Q for all blocks
   pub one-Q : OneQ
 
@@ -252,10 +304,10 @@ pub record Levels-kept : Type 0 where
   pub level-calls : (N : ℕ) (state : List ℤ) → freshCode N state ≡ 0 → (H : ℕ) (tables : ℕ → List ℕ) (routes : ℕ → Route) (x : List ℤ) → Recording N H x → (offers : List LoadOffer) →
       StoredLoads N H tables routes x (loadCalls (freshState N state) offers) → StoredReturned N H tables routes x (asTurns (loadCalls (freshState N state) offers)) (loadHeld (freshState N state) offers)
   -- and of the calls over whole recordings
-  pub once : (N H : ℕ) (tables : ℕ → List ℕ) (route : Route) (x c out : List ℤ) → playedCode N H c out ≡ 0 → ((i : ℕ) → i < length x → Sample (at x i)) → StoredOnce N H tables route x c →
-      StoredBack N H tables (λ b. route) x (playedOut N H c out)
-  pub blocks : (N H : ℕ) (tables : ℕ → List ℕ) (routes : ℕ → Route) (x c out : List ℤ) → playedCode N H c out ≡ 0 → Recording N H x → StoredBlocks N H tables routes x c →
-      StoredBack N H tables routes x (playedOut N H c out)
+  pub once : (N H : ℕ) (tables : ℕ → List ℕ) (route : Route) (order : Order) (x c out : List ℤ) → playedCode N H c out ≡ 0 → ((i : ℕ) → i < length x → Sample (at x i)) → StoredOnce N H tables route order x c →
+      StoredBack N H tables (λ b. route) x (playedOut order N H c out)
+  pub blocks : (N H : ℕ) (tables : ℕ → List ℕ) (routes : ℕ → Route) (order : Order) (x c out : List ℤ) → playedCode N H c out ≡ 0 → Recording N H x → StoredBlocks N H tables routes order x c →
+      StoredBack N H tables routes x (playedOut order N H c out)
 
 -- ================ BEYOND DEMAND 3: each sample within (3 Q + 36) / 64, equal where both its blocks have a Q up to 9, with Q + 7 for Q after the short route
 pub record Beyond : Type 0 where
@@ -263,9 +315,9 @@ pub record Beyond : Type 0 where
       Sharper N Q routes x (turns N offers)
   pub calls : (N : ℕ) (state : List ℤ) → freshCode N state ≡ 0 → (H : ℕ) (Q : ℕ → ℕ) (routes : ℕ → Route) (x : List ℤ) → Recording N H x → (offers : List Offer) →
       Numbered N H Q routes x (calls (freshState N state) offers) → Sharper N Q routes x (calls (freshState N state) offers)
-  pub once : (N H : ℕ) (Q : ℕ → ℕ) (route : Route) (x c out : List ℤ) → ((i : ℕ) → i < length x → Sample (at x i)) → ByOneCall N H Q route x c → playedCode N H c out ≡ 0 →
-      SharperBack N H Q (λ b. route) x (playedOut N H c out)
-  pub blocks : (N H : ℕ) (Q : ℕ → ℕ) (routes : ℕ → Route) (x c out : List ℤ) → Recording N H x → BlockByBlock N H Q routes x c → playedCode N H c out ≡ 0 →
-      SharperBack N H Q routes x (playedOut N H c out)
+  pub once : (N H : ℕ) (Q : ℕ → ℕ) (route : Route) (order : Order) (x c out : List ℤ) → ((i : ℕ) → i < length x → Sample (at x i)) → ByOneCall N H Q route order x c → playedCode N H c out ≡ 0 →
+      SharperBack N H Q (λ b. route) x (playedOut order N H c out)
+  pub blocks : (N H : ℕ) (Q : ℕ → ℕ) (routes : ℕ → Route) (order : Order) (x c out : List ℤ) → Recording N H x → BlockByBlock N H Q routes order x c → playedCode N H c out ≡ 0 →
+      SharperBack N H Q routes x (playedOut order N H c out)
   -- with one Q for all blocks: Q stands there, and Q + 7 where one of the two took the short route
   pub one : (Q : ℕ) (r r′ : Route) → provedChange Q Q r r′ ≡ Q + max (provedUnits r) (provedUnits r′)

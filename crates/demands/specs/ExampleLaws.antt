@@ -24,6 +24,7 @@ use Rattle.stream.specs.Synthesis.{storage}
 use Rattle.analysis.specs.declared.Route.{Route}
 use Rattle.analysis.specs.Analysis.{offered, spectrum, coefficients, unitsOf}
 use Rattle.recording.specs.Recordings.{silence, padded, standing, block}
+use Rattle.orders.specs.Orders.{place, blockAt, coefficientAt, part, laid}
 use Rattle.recording.specs.Recordings.{analysis as recordingOf}
 use Rattle.stream.specs.Steps.{next, hop}
 use Rattle.checks.specs.Causes.{firstCause}
@@ -67,7 +68,7 @@ unfolding floor rnd clamp sum table all every cosines analysis synthesis example
 computed = tt
 
 unfoldable pub answers : Unit {0}
-unfolding computed shortLengths shortTabled R.offered offered analyseCauses analyseCode analyseOut counted joined recordedCauses recordedCode recordedOut recordingOf playedCauses playedCode whole hops-room knock-whole
+unfolding computed shortLengths shortTabled R.offered offered analyseCauses analyseCode analyseOut counted joined place blockAt coefficientAt part laid recordedCauses recordedCode recordedOut recordingOf playedCauses playedCode whole hops-room knock-whole
 answers = tt
 
 -- the numbers that the steps return

@@ -12,7 +12,9 @@ use Rattle.arithmetic.specs.Lists.{at}
 use Rattle.analysis.specs.declared.Route.{Route}
 use Rattle.analysis.specs.declared.Route.the-variants.{Direct, Short}
 use Rattle.analysis.specs.Analysis.{coefficients, unitsOf}
-use Rattle.recording.specs.Recordings.{block, part}
+use Rattle.orders.specs.declared.Order.the-variants.{ByBlock}
+use Rattle.orders.specs.Orders.{part}
+use Rattle.recording.specs.Recordings.{block}
 use Rattle.text.specs.Bytes.{ascii}
 use Rattle.text.specs.Number.{isDigit, leadingZero, isNatural, naturalFrom, natural, isSigned, isNumber, value}
 use Rattle.text.specs.Lines.{inFront, split, ended, unended, lines, remainder, fields}
@@ -211,31 +213,31 @@ analysed-1 : (analyseCode Short 12 0 0 (block 12 knock 1) room ≡ 0) × (analys
 unfolding stored
 analysed-1 = (refl, refl)
 
-recorded-whole : recordedOut Direct 12 1 knock (room ++ room) ≡ plain-0 ++ plain-1
+recorded-whole : recordedOut Direct ByBlock 12 1 knock (room ++ room) ≡ plain-0 ++ plain-1
 unfolding stored
 recorded-whole = refl
 
 -- through levels, and as a part of both
-long-through : (b : ℕ) → b ≤ 1 → Through 12 (tables b) (part 12 (plain-0 ++ plain-1) b) (part 12 long-both b)
+long-through : (b : ℕ) → b ≤ 1 → Through 12 (tables b) (part ByBlock 6 2 (plain-0 ++ plain-1) b) (part ByBlock 6 2 long-both b)
 long-through zero p = record { levels = room; buffer = room; quantised = unfold stored in refl; dequantised = unfold stored in refl; is = unfold stored in refl }
 long-through (suc zero) p = record { levels = room; buffer = room; quantised = unfold stored in refl; dequantised = unfold stored in refl; is = unfold stored in refl }
 long-through (suc (suc b)) p = absurd (omega (arith, p))
 
-parts : (part 12 (plain-0 ++ plain-1) 0 ≡ plain-0) × (part 12 (plain-0 ++ plain-1) 1 ≡ plain-1)
+parts : (part ByBlock 6 2 (plain-0 ++ plain-1) 0 ≡ plain-0) × (part ByBlock 6 2 (plain-0 ++ plain-1) 1 ≡ plain-1)
 unfolding stored
 parts = (refl, refl)
 
 -- analysed block by block, each by its own route, and by one call, directly
-pub blocks-kept : StoredBack 12 1 tables mixed knock (playedOut 12 1 long-both room)
+pub blocks-kept : StoredBack 12 1 tables mixed knock (playedOut ByBlock 12 1 long-both room)
 unfolding mixed
-blocks-kept = stored-back 12 1 tables mixed knock long-both room played knock-recorded (record { buffer = λ b. room; analysed = analysed; through = through })
+blocks-kept = stored-back 12 1 tables mixed ByBlock knock long-both room played knock-recorded (record { buffer = λ b. room; analysed = analysed; through = through })
   where
     analysed : (b : ℕ) → b ≤ 1 → analyseCode (mixed b) 12 0 0 (block 12 knock b) room ≡ 0
     analysed zero p = analysed-0 .0
     analysed (suc zero) p = analysed-1 .0
     analysed (suc (suc b)) p = absurd (omega (arith, p))
 
-    through : (b : ℕ) → b ≤ 1 → Through 12 (tables b) (analyseOut (mixed b) 12 0 0 (block 12 knock b) room) (part 12 long-both b)
+    through : (b : ℕ) → b ≤ 1 → Through 12 (tables b) (analyseOut (mixed b) 12 0 0 (block 12 knock b) room) (part ByBlock 6 2 long-both b)
     through zero p = rw (analysed-0 .1) (rw (parts .0) at (long-through 0 p))
     through (suc zero) p = rw (analysed-1 .1) (rw (parts .1) at (long-through 1 p))
     through (suc (suc b)) p = absurd (omega (arith, p))
@@ -244,10 +246,10 @@ recorded : recordedCode Direct 12 1 knock (room ++ room) ≡ 0
 unfolding stored
 recorded = refl
 
-pub once-kept : StoredBack 12 1 tables (λ b. Direct) knock (playedOut 12 1 long-both room)
+pub once-kept : StoredBack 12 1 tables (λ b. Direct) knock (playedOut ByBlock 12 1 long-both room)
 once-kept =
-    stored-once 12 1 tables Direct knock long-both room played (knock-recorded .sample)
-    (record { buffer = room ++ room; analysed = recorded; through = λ b p. rw recorded-whole (long-through b p) })
+    stored-once 12 1 tables Direct ByBlock knock long-both room played (knock-recorded .sample)
+    (record { filled = ByBlock; buffer = room ++ room; analysed = recorded; through = λ b p. rw recorded-whole (long-through b p) })
 
 -- directly it is (50 + 8) / 16
 pub told-3 : told (farther Direct Direct) 12 (coarser 12 (tables 0) (tables 1)) ≡ record { code = 0; distance = 3 }

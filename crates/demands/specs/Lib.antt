@@ -11,6 +11,7 @@ pub mod Recordings
 pub mod BackLaws
 pub mod Answers
 pub mod Demands
+pub mod OrderLaws
 pub mod LevelStepLaws
 pub mod MovedLaws
 pub mod Stored
@@ -21,6 +22,7 @@ pub mod CauseTestLaws
 pub mod TableAnswerLaws
 pub mod LevelAnswerLaws
 pub mod ShareLaws
+pub mod OrderAnswerLaws
 pub mod LoadLaws
 pub mod StoredListLaws
 pub mod AnswerLaws
@@ -35,4 +37,5 @@ pub mod ExampleLaws
 pub mod RecordingExampleLaws
 pub mod LevelExampleLaws
 pub mod ShareExampleLaws
+pub mod OrderExampleLaws
 pub mod ListingLaws

@@ -11,7 +11,9 @@ use Rattle.arithmetic.specs.Lists.{at}
 use Rattle.stream.specs.declared.Stream.{Stream}
 use Rattle.analysis.specs.declared.Route.{Route}
 use Rattle.analysis.specs.Analysis.{offered, coefficients, unitsOf}
-use Rattle.recording.specs.Recordings.{block, part}
+use Rattle.orders.specs.declared.Order.{Order}
+use Rattle.orders.specs.Orders.{part}
+use Rattle.recording.specs.Recordings.{block}
 use Rattle.block_calls.specs.Analysis.{analyseCode, analyseOut}
 use Rattle.recording_calls.specs.Recordings.{recordedCode, recordedOut}
 use Rattle.steps.specs.Table.{coarsest}
@@ -39,16 +41,17 @@ pub record Stored (N H : ℕ) (tables : ℕ → List ℕ) (routes : ℕ → Rout
 
 -- ---- for the calls over whole recordings, X the coefficients that the synthesis is handed
 -- analysed block by block, each by its own route
-pub record StoredBlocks (N H : ℕ) (tables : ℕ → List ℕ) (routes : ℕ → Route) (x X : List ℤ) : Type 0 where
+pub record StoredBlocks (N H : ℕ) (tables : ℕ → List ℕ) (routes : ℕ → Route) (order : Order) (x X : List ℤ) : Type 0 where
   pub buffer : ℕ → List ℤ
   pub analysed : (b : ℕ) → b ≤ H → analyseCode (routes b) N 0 0 (block N x b) (buffer b) ≡ 0
-  pub through : (b : ℕ) → b ≤ H → Through N (tables b) (analyseOut (routes b) N 0 0 (block N x b) (buffer b)) (part N X b)
+  pub through : (b : ℕ) → b ≤ H → Through N (tables b) (analyseOut (routes b) N 0 0 (block N x b) (buffer b)) (part order (N / 2) (H + 1) X b)
 
 -- analysed by one call
-pub record StoredOnce (N H : ℕ) (tables : ℕ → List ℕ) (route : Route) (x X : List ℤ) : Type 0 where
+pub record StoredOnce (N H : ℕ) (tables : ℕ → List ℕ) (route : Route) (order : Order) (x X : List ℤ) : Type 0 where
+  pub filled : Order
   pub buffer : List ℤ
   pub analysed : recordedCode route N H x buffer ≡ 0
-  pub through : (b : ℕ) → b ≤ H → Through N (tables b) (part N (recordedOut route N H x buffer) b) (part N X b)
+  pub through : (b : ℕ) → b ≤ H → Through N (tables b) (part filled (N / 2) (H + 1) (recordedOut route filled N H x buffer) b) (part order (N / 2) (H + 1) X b)
 
 -- ---- the claim
 -- the coarser of two tables: the one with the larger coarsest step

@@ -18,6 +18,8 @@ use Rattle.cosine.specs.Kernels.{tabled}
 use Rattle.stream.specs.declared.Stream.{Stream}
 use Rattle.analysis.specs.declared.Route.{Route}
 use Rattle.analysis.specs.Analysis.{offered, unitsOf}
+use Rattle.orders.specs.declared.Order.{Order}
+use Rattle.orders.specs.OrderLaws.{part-at}
 use Rattle.recording.specs.Recordings.{block}
 use Rattle.checks.specs.Causes.{firstCause}
 use Rattle.block_calls.specs.AnalysisLaws.{analysed-offered}
@@ -35,7 +37,7 @@ use Rattle.demands.specs.RecordingLaws.{hop-of}
 use Rattle.demands.specs.Chains.{calls, held}
 use Rattle.demands.specs.ChainLaws.{fresh-calls, fresh-held}
 use Rattle.demands.specs.Recordings.{ByOneCall, BlockByBlock, Back}
-use Rattle.demands.specs.BackLaws.{part-entry, recorded-long, back-by-one-call, back-block-by-block}
+use Rattle.demands.specs.BackLaws.{back-by-one-call, back-block-by-block}
 use Rattle.demands.specs.MovedLaws.{quantised-facts, back-length, moved-half}
 use Rattle.demands.specs.Stored.{Through, StoredBlock, Stored, StoredBlocks, StoredOnce, coarser, farther, ToldKept, StoredReturned, StoredBack}
 
@@ -148,10 +150,10 @@ told-kept-calls N state z H tables routes x rec offers s =
     rw (fresh-calls N state z offers, fresh-held N state z offers) (told-kept N (fresh-tabled N state z) H tables routes x rec offers (rw (fresh-calls N state z offers) at s))
 
 -- ---- the calls over whole recordings
-module _ (N H : ℕ) (tables : ℕ → List ℕ) (routes : ℕ → Route) (x X out : List ℤ) (played : playedCode N H X out ≡ 0) where
+module _ (N H : ℕ) (tables : ℕ → List ℕ) (routes : ℕ → Route) (order : Order) (x X out : List ℤ) (played : playedCode N H X out ≡ 0) where
   -- of what demand 3 gives back
-  pub back-kept : Back N H (λ b. half N (tables b)) routes x (playedOut N H X out) → ((b : ℕ) → b ≤ H → T (offered (routes b) N)) →
-      ((b : ℕ) → b ≤ H → tableCode (N / 2) (tables b) ≡ 0) → StoredBack N H tables routes x (playedOut N H X out)
+  pub back-kept : Back N H (λ b. half N (tables b)) routes x (playedOut order N H X out) → ((b : ℕ) → b ≤ H → T (offered (routes b) N)) →
+      ((b : ℕ) → b ≤ H → tableCode (N / 2) (tables b) ≡ 0) → StoredBack N H tables routes x (playedOut order N H X out)
   back-kept back offers are = record {
     back = back;
     each = λ i p.
@@ -162,29 +164,29 @@ module _ (N H : ℕ) (tables : ℕ → List ℕ) (routes : ℕ → Route) (x X o
   }
 
   -- the blocks were analysed one by one, each by its own route
-  pub stored-back : Recording N H x → StoredBlocks N H tables routes x X → StoredBack N H tables routes x (playedOut N H X out)
+  pub stored-back : Recording N H x → StoredBlocks N H tables routes order x X → StoredBack N H tables routes x (playedOut order N H X out)
   stored-back rec given =
-      let by : BlockByBlock N H (λ b. half N (tables b)) routes x X = record {
+      let by : BlockByBlock N H (λ b. half N (tables b)) routes order x X = record {
         buffer = given .buffer;
         taken = given .analysed;
-        near = λ b p k q. rw (part-entry N H X (played-facts N H X out played .long) b p k q) at (through-near (given .through b p) k q);
+        near = λ b p k q. rw (part-at (N / 2) (H + 1) order X b k q) at (through-near (given .through b p) k q);
       } in
-      back-kept (back-block-by-block N H (λ b. half N (tables b)) routes x X out rec by played .0)
+      back-kept (back-block-by-block N H (λ b. half N (tables b)) routes order x X out rec by played .0)
       (λ b p. analysed-offered (routes b) N 0 0 (block N x b) (given .buffer b) (given .analysed b p))
       (λ b p. through-table (given .through b p))
 
 -- one call analysed them
-pub stored-once : (N H : ℕ) (tables : ℕ → List ℕ) (route : Route) (x X out : List ℤ) → playedCode N H X out ≡ 0 → ((i : ℕ) → i < length x → Sample (at x i)) →
-    StoredOnce N H tables route x X → StoredBack N H tables (λ b. route) x (playedOut N H X out)
-stored-once N H tables route x X out played samples given =
+pub stored-once : (N H : ℕ) (tables : ℕ → List ℕ) (route : Route) (order : Order) (x X out : List ℤ) → playedCode N H X out ≡ 0 → ((i : ℕ) → i < length x → Sample (at x i)) →
+    StoredOnce N H tables route order x X → StoredBack N H tables (λ b. route) x (playedOut order N H X out)
+stored-once N H tables route order x X out played samples given =
     let f = recorded-facts route N H x (given .buffer) (given .analysed) in
-    let by : ByOneCall N H (λ b. half N (tables b)) route x X = record {
+    let by : ByOneCall N H (λ b. half N (tables b)) route order x X = record {
+      filled = given .filled;
       buffer = given .buffer;
       taken = given .analysed;
       near = λ b p k q.
-          let are = recordedOut route N H x (given .buffer) in
-          rw (part-entry N H X (played-facts N H X out played .long) b p k q, part-entry N H are (recorded-long route N H x (given .buffer) (given .analysed)) b p k q) at
+          rw (part-at (N / 2) (H + 1) order X b k q, part-at (N / 2) (H + 1) (given .filled) (recordedOut route (given .filled) N H x (given .buffer)) b k q) at
           (through-near (given .through b p) k q);
     } in
-    back-kept N H tables (λ b. route) x X out played (back-by-one-call N H (λ b. half N (tables b)) route x X out samples by played .0)
+    back-kept N H tables (λ b. route) order x X out played (back-by-one-call N H (λ b. half N (tables b)) route order x X out samples by played .0)
     (λ b p. is-T (f .offers)) (λ b p. through-table (given .through b p))

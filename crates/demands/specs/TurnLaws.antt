@@ -11,7 +11,7 @@ use lib.IntN.{ℤ, pos, negℤ, _+ℤ_, _-ℤ_, _*ℤ_}
 use lib.Signed.{_≤ℤ_, _<ℤ_}
 use Rattle.arithmetic.specs.Rounding.{rnd, least, largest, Sample}
 use Rattle.arithmetic.specs.Sums.{sum}
-use Rattle.arithmetic.specs.Lists.{at, table, joined}
+use Rattle.arithmetic.specs.Lists.{at, table}
 use Rattle.arithmetic.specs.IntegerLaws.{ints}
 use Rattle.arithmetic.specs.OrderLaws.{<ℤ-≤ℤ, ≤ℤ-antisym}
 use Rattle.arithmetic.specs.RoundingLaws.{rnd-neg}
@@ -25,6 +25,8 @@ use Rattle.analysis.specs.declared.Route.the-variants.{Direct, Short}
 use Rattle.analysis.specs.Analysis.{spectrum, coefficients}
 use Rattle.recording.specs.Recordings.{silence, padded, standing, block, analysis}
 use Rattle.block_calls.specs.AnalysisLaws.{analyse-taken}
+use Rattle.orders.specs.declared.Order.{Order}
+use Rattle.orders.specs.Orders.{blockAt, coefficientAt, laid}
 use Rattle.recording_calls.specs.RecordingLaws.{recorded-taken}
 use Rattle.demands.specs.Turned.{opposite, Sign-rule}
 
@@ -210,16 +212,17 @@ cut-turn N x b =
     let from = b * (N / 2) in
     ap (λ (l : List ℤ). take N (drop from l)) (padded-turn N x) ∙ ap (take N) (opposite-drop from (padded N x)) ∙ opposite-take N (drop from (padded N x))
 
-joined-turn : (B : ℕ) (f g : ℕ → List ℤ) → ((b : ℕ) → g b ≡ opposite (f b)) → joined B g ≡ opposite (joined B f)
-unfolding joined opposite
-joined-turn zero f g h = refl
-joined-turn (suc B) f g h = ap₂ (λ (p q : List ℤ). p ++ q) (joined-turn B f g h) (h B) ∙ sym (opposite-append (joined B f) (f B))
-
-analysis-turn : (route : Route) (N H : ℕ) (x : List ℤ) → analysis route N H (opposite x) ≡ opposite (analysis route N H x)
-unfolding analysis
-analysis-turn route N H x =
-    joined-turn (H + 1) (λ b. coefficients route N 0 0 (block N x b)) (λ b. coefficients route N 0 0 (block N (opposite x) b))
-    (λ b. ap (coefficients route N 0 0) (cut-turn N x b) ∙ coefficients-turn route N 0 0 (block N x b))
+analysis-turn : (route : Route) (order : Order) (N H : ℕ) (x : List ℤ) → analysis route order N H (opposite x) ≡ opposite (analysis route order N H x)
+unfolding analysis laid
+analysis-turn route order N H x =
+    let B = H + 1 in
+    let c : ℕ → ℕ → ℤ = λ b k. at (coefficients route N 0 0 (block N x b)) k in
+    table-turn (B * (N / 2)) (λ i. c (blockAt order (N / 2) B i) (coefficientAt order (N / 2) B i))
+    (λ i. at (coefficients route N 0 0 (block N (opposite x) (blockAt order (N / 2) B i))) (coefficientAt order (N / 2) B i))
+    (λ i.
+    let b = blockAt order (N / 2) B i in
+    let k = coefficientAt order (N / 2) B i in
+    ap (λ (l : List ℤ). at l k) (ap (coefficients route N 0 0) (cut-turn N x b) ∙ coefficients-turn route N 0 0 (block N x b)) ∙ opposite-at (coefficients route N 0 0 (block N x b)) k)
 
 -- ---- -32,768
 sample-turn : (s : ℤ) → Sample s → (s ≡ least → ⊥) → Sample (negℤ s)
@@ -241,6 +244,6 @@ sign-rule = record {
   block = block-turn;
   analysed = λ route N l r x out out′ c c′.
       sym (analyse-taken route N l r (opposite x) out′ c′ .1) ∙ coefficients-turn route N l r x ∙ ap opposite (analyse-taken route N l r x out c .1);
-  recorded = λ route N H x out out′ c c′.
-      sym (recorded-taken route N H (opposite x) out′ c′ .1) ∙ analysis-turn route N H x ∙ ap opposite (recorded-taken route N H x out c .1);
+  recorded = λ route order N H x out out′ c c′.
+      sym (recorded-taken route order N H (opposite x) out′ c′ .1) ∙ analysis-turn route order N H x ∙ ap opposite (recorded-taken route order N H x out c .1);
 }

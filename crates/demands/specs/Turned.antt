@@ -12,6 +12,7 @@ use Rattle.transform.specs.Analysis.{y}
 use Rattle.analysis.specs.declared.Route.{Route}
 use Rattle.analysis.specs.Analysis.{spectrum}
 use Rattle.block_calls.specs.Analysis.{analyseCode, analyseOut}
+use Rattle.orders.specs.declared.Order.{Order}
 use Rattle.recording_calls.specs.Recordings.{recordedCode, recordedOut}
 
 -- the same numbers with their signs turned
@@ -35,5 +36,5 @@ pub record Sign-rule : Type 0 where
   pub analysed : (route : Route) (N left right : ℕ) (x out out′ : List ℤ) → analyseCode route N left right x out ≡ 0 → analyseCode route N left right (opposite x) out′ ≡ 0 →
       analyseOut route N left right (opposite x) out′ ≡ opposite (analyseOut route N left right x out)
   -- and two of `analyse_recording`
-  pub recorded : (route : Route) (N H : ℕ) (x out out′ : List ℤ) → recordedCode route N H x out ≡ 0 → recordedCode route N H (opposite x) out′ ≡ 0 →
-      recordedOut route N H (opposite x) out′ ≡ opposite (recordedOut route N H x out)
+  pub recorded : (route : Route) (order : Order) (N H : ℕ) (x out out′ : List ℤ) → recordedCode route N H x out ≡ 0 → recordedCode route N H (opposite x) out′ ≡ 0 →
+      recordedOut route order N H (opposite x) out′ ≡ opposite (recordedOut route order N H x out)

@@ -9,6 +9,7 @@ use lib.IntN.{ℤ}
 use Rattle.arithmetic.specs.Lists.{Small}
 use Rattle.arithmetic.specs.TestLaws.{is-true}
 use Rattle.cosine.specs.Kernels.{tabled}
+use Rattle.orders.specs.declared.Order.{Order}
 use Rattle.checks.specs.Causes.{First}
 use Rattle.checks.specs.CauseLaws.{first-is, leaves, spared, Passed, passed}
 use Rattle.checks.specs.LimitLaws.{range-small}
@@ -16,14 +17,14 @@ use Rattle.checks.specs.Limits.{counted}
 use Rattle.page.specs.Page.{pageOf, pageCauses, pageCode, pageOut}
 
 -- for k = 0 its work, for every other k what `out` held
-pub page-answer : (N H : ℕ) (x : List ℤ) (out : List ℕ) {k : ℕ} → First (pageCauses N H x out) k →
-    (k ≡ pageCode N H x out) × (cond (eqb k 0) (pageOf N H x) out ≡ pageOut N H x out)
+pub page-answer : (order : Order) (N H : ℕ) (x : List ℤ) (out : List ℕ) {k : ℕ} → First (pageCauses N H x out) k →
+    (k ≡ pageCode N H x out) × (cond (eqb k 0) (pageOf order N H x) out ≡ pageOut order N H x out)
 unfolding pageCode pageOut
-page-answer N H x out f = let cs = pageCauses N H x out in (sym (first-is cs f), leaves cs (pageOf N H x) out f)
+page-answer order N H x out f = let cs = pageCauses N H x out in (sym (first-is cs f), leaves cs (pageOf order N H x) out f)
 
-pub page-taken : (N H : ℕ) (x : List ℤ) (out : List ℕ) → pageCode N H x out ≡ 0 → pageOut N H x out ≡ pageOf N H x
+pub page-taken : (order : Order) (N H : ℕ) (x : List ℤ) (out : List ℕ) → pageCode N H x out ≡ 0 → pageOut order N H x out ≡ pageOf order N H x
 unfolding pageOut
-page-taken N H x out e = rw e
+page-taken order N H x out e = rw e
 
 pub record Paged (N H : ℕ) (x : List ℤ) : Type 0 where
   pub length-is : T (tabled N)

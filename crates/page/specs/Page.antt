@@ -1,4 +1,4 @@
--- A printed page of a recording's coefficients, what the call `page` answers, and how a page is read back: definitions. Document 02, P2. H is the number of hops; a recording
+-- A printed page of a recording's coefficients, what the call `page` answers, and how a page is read back: definitions. Document 02, P2 and P10. H is the number of hops; a recording
 -- has H + 1 blocks.
 use mathlib.Core.Bool.{cond}
 use mathlib.Core.List.{List, [], _∷_, _++_}
@@ -11,7 +11,8 @@ use Rattle.text.specs.Bytes.{lineFeed}
 use Rattle.text.specs.Number.{decimal, printed, value}
 use Rattle.text.specs.Columns.{aligned, trimmed}
 use Rattle.cosine.specs.Kernels.{tabled}
-use Rattle.recording.specs.Recordings.{part}
+use Rattle.orders.specs.declared.Order.{Order}
+use Rattle.orders.specs.Orders.{part}
 use Rattle.checks.specs.Causes.{Cause, _unless_, firstCause}
 use Rattle.checks.specs.Limits.{inRange, counted}
 
@@ -25,9 +26,9 @@ margin b (suc j) = aligned 8 []
 unfoldable pub columns : ℕ → List ℤ → ℕ → List ℕ
 columns b c j = margin b j ++ joined 6 (λ i. aligned 12 (printed (at c (6 * j + i))))
 
--- the lines of a page, block after block, each of its 80 columns and a line feed: a block has M / 6
-unfoldable pub pageOf : ℕ → ℕ → List ℤ → List ℕ
-pageOf N H x = joined (H + 1) (λ b. joined (N / 2 / 6) (λ j. columns b (part N x b) j ++ (lineFeed ∷ [])))
+-- the lines of a page, block after block, each of its 80 columns and a line feed: a block has M / 6. x are the coefficients, in the order named
+unfoldable pub pageOf : Order → ℕ → ℕ → List ℤ → List ℕ
+pageOf order N H x = joined (H + 1) (λ b. joined (N / 2 / 6) (λ j. columns b (part order (N / 2) (H + 1) x b) j ++ (lineFeed ∷ [])))
 
 -- ---- the call
 -- the causes of `page`: N, H, a buffer that is not of H + 1 blocks of M coefficients, or of M / 6 lines of 81 bytes, a coefficient anywhere
@@ -44,8 +45,8 @@ unfoldable pub pageCode : ℕ → ℕ → List ℤ → List ℕ → ℕ
 pageCode N H x out = firstCause (pageCauses N H x out)
 
 -- what `out` then holds: the page, or what it held
-unfoldable pub pageOut : ℕ → ℕ → List ℤ → List ℕ → List ℕ
-pageOut N H x out = cond (eqb (pageCode N H x out) 0) (pageOf N H x) out
+unfoldable pub pageOut : Order → ℕ → ℕ → List ℤ → List ℕ → List ℕ
+pageOut order N H x out = cond (eqb (pageCode N H x out) 0) (pageOf order N H x) out
 
 -- ---- reading a page back
 -- what columns 8 + 12 i + 1 to 8 + 12 i + 12 of a line hold, and columns 1 to 8, without the blanks in front

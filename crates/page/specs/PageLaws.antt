@@ -20,7 +20,9 @@ use Rattle.text.specs.NumberLaws.{decimal-most, printed-most}
 use Rattle.text.specs.Lines.{indexOf, lines, remainder}
 use Rattle.text.specs.Columns.{aligned}
 use Rattle.text.specs.ColumnLaws.{aligned-long, aligned-front, reads-columns, NoFeed, no-feed-append, no-feed-number, no-feed-blank, no-feed-joined, lines-blocks, remainder-blocks}
-use Rattle.recording.specs.Recordings.{part}
+use Rattle.orders.specs.declared.Order.{Order}
+use Rattle.orders.specs.Orders.{part}
+use Rattle.orders.specs.OrderLaws.{part-long}
 use Rattle.recording.specs.RecordingLaws.{part-range}
 use Rattle.page.specs.Page.{margin, columns, pageOf, numberText, blockText, numberIn, blockIn}
 
@@ -121,39 +123,39 @@ columns-part b c j k e fits =
     ap (λ (z : ℤ). aligned 12 (printed z)) (part-at c (j * 6) k 6 e fits i p ∙ ap (at c) f)))
 
 -- ---- the page, of H + 1 blocks
-module _ (N : ℕ) (t : T (tabled N)) (H : ℕ) (most : H ≤ 4095) (x : List ℤ) (long : length x ≡ (H + 1) * (N / 2)) (range : Small x (2 ^ 29)) where
+module _ (order : Order) (N : ℕ) (t : T (tabled N)) (H : ℕ) (most : H ≤ 4095) (x : List ℤ) (long : length x ≡ (H + 1) * (N / 2)) (range : Small x (2 ^ 29)) where
   abbrev L : ℕ
   L = N / 2 / 6
 
   abbrev c : ℕ → List ℤ
-  c b = part N x b
+  c b = part order (N / 2) (H + 1) x b
 
   lines-fit : L * 6 ≡ N / 2
   lines-fit = omega (arith, length-of N t .twelve)
 
   -- its lines
-  pub page-lines : lines (pageOf N H x) ≡ joined (H + 1) (λ b. table L (columns b (c b)))
+  pub page-lines : lines (pageOf order N H x) ≡ joined (H + 1) (λ b. table L (columns b (c b)))
   unfolding pageOf
   page-lines = lines-blocks (H + 1) L (λ b j. columns b (c b) j) (λ b j p q. columns-free b (c b) j)
 
-  pub page-ended : remainder (pageOf N H x) ≡ []
+  pub page-ended : remainder (pageOf order N H x) ≡ []
   unfolding pageOf
   page-ended = remainder-blocks (H + 1) L (λ b j. columns b (c b) j) (λ b j p q. columns-free b (c b) j)
 
   sizes : (b : ℕ) → b < H + 1 → length (table L (columns b (c b))) ≡ L
   sizes b p = length-table (columns b (c b)) L
 
-  pub page-count : length (lines (pageOf N H x)) ≡ (H + 1) * L
+  pub page-count : length (lines (pageOf order N H x)) ≡ (H + 1) * L
   page-count = ap length page-lines ∙ joined-length (λ b. table L (columns b (c b))) L (H + 1) sizes (H + 1) (omega arith)
 
-  line-at : (b j : ℕ) → b ≤ H → j < L → getD (lines (pageOf N H x)) (b * L + j) [] ≡ columns b (c b) j
+  line-at : (b j : ℕ) → b ≤ H → j < L → getD (lines (pageOf order N H x)) (b * L + j) [] ≡ columns b (c b) j
   line-at b j p q =
       ap (λ (l : List (List ℕ)). getD l (b * L + j) []) page-lines
       ∙ joined-at (λ b. table L (columns b (c b))) L (H + 1) sizes [] (H + 1) b j (omega arith) (omega arith) q
       ∙ getD-table (columns b (c b)) [] L j q
 
   small : (b : ℕ) → b ≤ H → Small (c b) (2 ^ 29)
-  small b p = part-range N t (H + 1) x long range b (omega arith)
+  small b p = part-range N t (H + 1) order x long range b (omega arith)
 
   -- its bytes: 81 for each line
   abbrev block : ℕ → List ℕ
@@ -165,11 +167,11 @@ module _ (N : ℕ) (t : T (tabled N)) (H : ℕ) (most : H ≤ 4095) (x : List �
   block-sizes : (b : ℕ) → b < H + 1 → length (block b) ≡ L * 81
   block-sizes b p = joined-length (λ j. columns b (c b) j ++ (lineFeed ∷ [])) 81 L (line-sizes b (omega arith)) L (omega arith)
 
-  pub page-long : length (pageOf N H x) ≡ (H + 1) * L * 81
+  pub page-long : length (pageOf order N H x) ≡ (H + 1) * L * 81
   unfolding pageOf
   page-long = joined-length block (L * 81) (H + 1) block-sizes (H + 1) (omega arith) ∙ sym (mul-assoc (H + 1) L 81)
 
-  pub byte-at : (b j i : ℕ) → b ≤ H → j < L → i < 81 → getD (pageOf N H x) ((b * L + j) * 81 + i) 0 ≡ getD (columns b (c b) j ++ (lineFeed ∷ [])) i 0
+  pub byte-at : (b j i : ℕ) → b ≤ H → j < L → i < 81 → getD (pageOf order N H x) ((b * L + j) * 81 + i) 0 ≡ getD (columns b (c b) j ++ (lineFeed ∷ [])) i 0
   unfolding pageOf
   byte-at b j i p q r =
       let e : (b * L + j) * 81 + i ≡ b * (L * 81) + (j * 81 + i) = omega (arith, add-mul (b * L) j 81, mul-assoc b L 81) in
@@ -177,59 +179,51 @@ module _ (N : ℕ) (t : T (tabled N)) (H : ℕ) (most : H ≤ 4095) (x : List �
       ∙ joined-at block (L * 81) (H + 1) block-sizes 0 (H + 1) b (j * 81 + i) (omega arith) (omega arith) (omega (arith, within j L 81 q))
       ∙ joined-at (λ j. columns b (c b) j ++ (lineFeed ∷ [])) 81 L (line-sizes b p) 0 L j i (omega arith) q r
 
-  pub columns-at : (b j : ℕ) → b ≤ H → j < L → length (getD (lines (pageOf N H x)) (b * L + j) []) ≡ 80
+  pub columns-at : (b j : ℕ) → b ≤ H → j < L → length (getD (lines (pageOf order N H x)) (b * L + j) []) ≡ 80
   columns-at b j p q = ap length (line-at b j p q) ∙ columns-long b (omega arith) (c b) (small b p) j
 
   -- none of its columns is a line feed
-  pub no-feed-at : (b j : ℕ) → b ≤ H → j < L → indexOf lineFeed (getD (lines (pageOf N H x)) (b * L + j) []) ≡ 80
+  pub no-feed-at : (b j : ℕ) → b ≤ H → j < L → indexOf lineFeed (getD (lines (pageOf order N H x)) (b * L + j) []) ≡ 80
   no-feed-at b j p q = ap (indexOf lineFeed) (line-at b j p q) ∙ columns-free b (c b) j .none ∙ columns-long b (omega arith) (c b) (small b p) j
-
-  entry : (b k : ℕ) → b ≤ H → k < N / 2 → at (c b) k ≡ at x (b * (N / 2) + k)
-  unfolding part
-  entry b k p q = part-at x (b * (N / 2)) (N / 2) (N / 2) (omega arith) (omega (arith, long, within b (H + 1) (N / 2) (omega arith))) k q
 
   -- number i of line j of block b is its coefficient 6 j + i
   pub number-at : (b j i : ℕ) → b ≤ H → j < L → i < 6 →
-      T (isNumber 9 (numberText (getD (lines (pageOf N H x)) (b * L + j) []) i)) × (numberIn (getD (lines (pageOf N H x)) (b * L + j) []) i ≡ at x (b * (N / 2) + (6 * j + i)))
+      T (isNumber 9 (numberText (getD (lines (pageOf order N H x)) (b * L + j) []) i)) × (numberIn (getD (lines (pageOf order N H x)) (b * L + j) []) i ≡ at (c b) (6 * j + i))
   number-at b j i p q r =
       let n = number-back b (omega arith) (c b) (small b p) j i r in
-      rw (line-at b j p q) (n .0, n .1 ∙ entry b (6 * j + i) p (omega (arith, lines-fit, within j L 6 q)))
+      rw (line-at b j p q) n
 
-  pub apart-at : (b j i : ℕ) → b ≤ H → j < L → i < 6 → take 2 (drop (8 + 12 * i) (getD (lines (pageOf N H x)) (b * L + j) [])) ≡ replicate 2 blank
+  pub apart-at : (b j i : ℕ) → b ≤ H → j < L → i < 6 → take 2 (drop (8 + 12 * i) (getD (lines (pageOf order N H x)) (b * L + j) [])) ≡ replicate 2 blank
   apart-at b j i p q r = rw (line-at b j p q) (apart-back b (omega arith) (c b) (small b p) j i r)
 
   -- the first line of a block has its number, the others have blanks there
-  pub block-at : (b : ℕ) → b ≤ H → T (isNumber 4 (blockText (getD (lines (pageOf N H x)) (b * L) []))) × (blockIn (getD (lines (pageOf N H x)) (b * L) []) ≡ pos b)
+  pub block-at : (b : ℕ) → b ≤ H → T (isNumber 4 (blockText (getD (lines (pageOf order N H x)) (b * L) []))) × (blockIn (getD (lines (pageOf order N H x)) (b * L) []) ≡ pos b)
   block-at b p =
       let e : b * L ≡ b * L + 0 = omega arith in
       let some : 0 < L = omega (arith, lines-fit, length-of N t .twelve, length-of N t .some) in
       rw (e, line-at b 0 p some) (block-back b (omega arith) (c b) (small b p))
 
-  pub blanks-at : (b j : ℕ) → b ≤ H → suc j < L → take 8 (getD (lines (pageOf N H x)) (b * L + suc j) []) ≡ replicate 8 blank
+  pub blanks-at : (b j : ℕ) → b ≤ H → suc j < L → take 8 (getD (lines (pageOf order N H x)) (b * L + suc j) []) ≡ replicate 8 blank
   unfolding margin aligned
   blanks-at b j p q = ap (take 8) (line-at b (suc j) p q) ∙ margin-back b (omega arith) (c b) (small b p) (suc j) ∙ append-nil (replicate 8 blank)
 
   -- coefficient k of block b, by its line and its place there
-  pub read-back : (b k : ℕ) → b ≤ H → k < N / 2 → numberIn (getD (lines (pageOf N H x)) (b * L + k / 6) []) (k % 6) ≡ at x (b * (N / 2) + k)
+  pub read-back : (b k : ℕ) → b ≤ H → k < N / 2 → numberIn (getD (lines (pageOf order N H x)) (b * L + k / 6) []) (k % 6) ≡ at (c b) k
   read-back b k p q =
       let l = place-of 6 L k (omega arith) (omega (arith, lines-fit)) in
       let e : 6 * (k / 6) + k % 6 ≡ k = omega (arith, l .is, mul-comm 6 (k / 6)) in
-      number-at b (k / 6) (k % 6) p (l .before) (l .less) .1 ∙ ap (λ (i : ℕ). at x (b * (N / 2) + i)) e
+      number-at b (k / 6) (k % 6) p (l .before) (l .less) .1 ∙ ap (at (c b)) e
 
--- ---- so two different sets of coefficients give two different pages
-module _ (N : ℕ) (t : T (tabled N)) (H : ℕ) (most : H ≤ 4095) (x y : List ℤ) (x-long : length x ≡ (H + 1) * (N / 2)) (y-long : length y ≡ (H + 1) * (N / 2))
-    (x-range : Small x (2 ^ 29)) (y-range : Small y (2 ^ 29)) (same : pageOf N H x ≡ pageOf N H y) where
-  same-at : (i : ℕ) → i < (H + 1) * (N / 2) → at x i ≡ at y i
-  same-at i p =
-      let M = N / 2 in
-      let l = place-of M (H + 1) i (omega (arith, length-of N t .twelve, length-of N t .some)) p in
-      let b = i / M in
-      let k = i % M in
-      ap (at x) (sym (l .is))
-      ∙ sym (read-back N t H most x x-long x-range b k (omega (arith, l .before)) (l .less))
-      ∙ ap (λ (s : List ℕ). numberIn (getD (lines s) (b * (M / 6) + k / 6) []) (k % 6)) same
-      ∙ read-back N t H most y y-long y-range b k (omega (arith, l .before)) (l .less)
-      ∙ ap (at y) (l .is)
-
-  pub page-only : x ≡ y
-  page-only = ext-getD (pos 0) x y (x-long ∙ sym y-long) (λ i p. same-at i (omega (arith, x-long)))
+-- ---- so two different sets of coefficients give two different pages, in whatever orders they lie
+module _ (order order′ : Order) (N : ℕ) (t : T (tabled N)) (H : ℕ) (most : H ≤ 4095) (x y : List ℤ) (x-long : length x ≡ (H + 1) * (N / 2)) (y-long : length y ≡ (H + 1) * (N / 2))
+    (x-range : Small x (2 ^ 29)) (y-range : Small y (2 ^ 29)) (same : pageOf order N H x ≡ pageOf order′ N H y) where
+  pub page-only : (b : ℕ) → b ≤ H → part order (N / 2) (H + 1) x b ≡ part order′ (N / 2) (H + 1) y b
+  page-only b p =
+      ext-getD (pos 0) (part order (N / 2) (H + 1) x b) (part order′ (N / 2) (H + 1) y b) (part-long (N / 2) (H + 1) order x b ∙ sym (part-long (N / 2) (H + 1) order′ y b))
+      (λ k q. each k (omega (arith, q, part-long (N / 2) (H + 1) order x b)))
+    where
+      each : (k : ℕ) → k < N / 2 → at (part order (N / 2) (H + 1) x b) k ≡ at (part order′ (N / 2) (H + 1) y b) k
+      each k q =
+          sym (read-back order N t H most x x-long x-range b k p q)
+          ∙ ap (λ (s : List ℕ). numberIn (getD (lines s) (b * (N / 2 / 6) + k / 6) []) (k % 6)) same
+          ∙ read-back order′ N t H most y y-long y-range b k p q

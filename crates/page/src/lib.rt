@@ -4,12 +4,13 @@ mod lines;
 
 ghost use mathlib.Core.Path.{_≡_};
 ghost use Rattle.page.specs.Page.{pageCode, pageOut};
+use orders::Order;
 
-// The page of a recording of `hops` hops, x the coefficients of its H + 1 blocks. 1: n is not tabled. 2: the number of hops is not 1 to 4,095, or a
+// The page of a recording of `hops` hops, x the coefficients of its H + 1 blocks in the order named. 1: n is not tabled. 2: the number of hops is not 1 to 4,095, or a
 // buffer's length is not the stated one. 3: a coefficient is out of range, wherever it stands. Refused, `out` is left alone.
-pub fn page(n: usize, hops: usize, x: &[i32], out: &mut [u8]) -> u32
+pub fn page(order: Order, n: usize, hops: usize, x: &[i32], out: &mut [u8]) -> u32
     ensures { λ r. ⌜ r ≡ pageCode n hops (now (x .entry)) (now (out .entry)) ⌝ }
-    ensures { λ _. ⌜ now (out .exit) ≡ pageOut n hops (now (x .entry)) (now (out .entry)) ⌝ }
+    ensures { λ _. ⌜ now (out .exit) ≡ pageOut order n hops (now (x .entry)) (now (out .entry)) ⌝ }
 {
     if !cosine::is_tabled(n) {
         return 1;
@@ -29,6 +30,6 @@ pub fn page(n: usize, hops: usize, x: &[i32], out: &mut [u8]) -> u32
     if !checks::in_range(x, count) {
         return 3;
     }
-    lines::put_page(n, blocks, x, out);
+    lines::put_page(order, n, blocks, x, out);
     0
 }

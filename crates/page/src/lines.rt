@@ -1,16 +1,17 @@
 // The lines of a page, each put into its own part of the page: the margin, six numbers and a line feed.
 ghost use mathlib.Core.Path.{_≡_};
 ghost use mathlib.Core.List.{_∷_, [], _++_};
-ghost use Prim.Native.Nat.{_*_, _/_, _^_, _≤_};
+ghost use Prim.Native.Nat.{_*_, _/_, _^_, _≤_, _<_};
 ghost use lib.Dec.{T};
 ghost use lib.ListN.{length};
 ghost use Rattle.arithmetic.specs.Lists.{at, Small, joined};
 ghost use Rattle.cosine.specs.Kernels.{tabled};
-ghost use Rattle.recording.specs.Recordings.{part};
+ghost use Rattle.orders.specs.Orders.{part};
 ghost use Rattle.text.specs.Bytes.{lineFeed};
 ghost use Rattle.text.specs.Number.{printed};
 ghost use Rattle.text.specs.Columns.{aligned};
 ghost use Rattle.page.specs.Page.{margin, columns};
+use orders::Order;
 use text::columns::put_aligned;
 use text::columns::put_blanks;
 use text::line::LINE_FEED;
@@ -70,18 +71,52 @@ fn put_block(b: usize, lines: usize, x: &[i32], out: &mut [u8])
     }
 }
 
+// The lines of block b of the blocks whose coefficients lie in x: by block they are read in place, by frequency they are gathered in `room` first.
+fn put_part(
+    order: Order,
+    m: usize,
+    blocks: usize,
+    b: usize,
+    x: &[i32],
+    room: &mut [i32],
+    out: &mut [u8],
+)
+    requires { ⌜ (m / 6 * 6 ≡ m) × (m ≤ 108) × (blocks ≤ 4096) × (b < blocks) ⌝ }
+    requires { ⌜ Small (now x) (2 ^ 29) × (length (now x) ≡ blocks * m) × (length (now room) ≡ m) × (length (now out) ≡ m / 6 * 81) ⌝ }
+    ensures { λ _. ⌜ now (out .exit) ≡ joined (m / 6) (λ j. columns b (part order m blocks (now (x .entry)) b) j ++ (lineFeed ∷ [])) ⌝ }
+{
+    let lines = m / NUMBERS;
+    match order {
+        Order::ByBlock => {
+            let first = b * m;
+            put_block(b, lines, &x[first..first + m], out);
+        }
+        Order::ByFrequency => {
+            orders::gather(order, blocks, b, x, room);
+            put_block(b, lines, room, out);
+        }
+    }
+}
+
 // The blocks of a page, one after the other.
-pub fn put_page(n: usize, blocks: usize, x: &[i32], out: &mut [u8])
+pub fn put_page(order: Order, n: usize, blocks: usize, x: &[i32], out: &mut [u8])
     requires { ⌜ T (tabled n) × (blocks ≤ 4096) × Small (now x) (2 ^ 29) ⌝ }
     requires { ⌜ (length (now x) ≡ blocks * (n / 2)) × (length (now out) ≡ blocks * (n / 2 / 6) * 81) ⌝ }
-    ensures { λ _. ⌜ now (out .exit) ≡ joined blocks (λ b. joined (n / 2 / 6) (λ j. columns b (part n (now (x .entry)) b) j ++ (lineFeed ∷ []))) ⌝ }
+    ensures { λ _. ⌜ now (out .exit) ≡ joined blocks (λ b. joined (n / 2 / 6) (λ j. columns b (part order (n / 2) blocks (now (x .entry)) b) j ++ (lineFeed ∷ []))) ⌝ }
 {
     let m = n / 2;
-    let lines = m / NUMBERS;
-    let size = lines * LINE;
+    let size = m / NUMBERS * LINE;
+    let mut room = orders::room();
     for b in 0..blocks {
-        let at = b * m;
         let place = b * size;
-        put_block(b, lines, &x[at..at + m], &mut out[place..place + size]);
+        put_part(
+            order,
+            m,
+            blocks,
+            b,
+            x,
+            &mut room[..m],
+            &mut out[place..place + size],
+        );
     }
 }

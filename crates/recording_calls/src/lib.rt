@@ -1,14 +1,24 @@
 // The public calls over whole recordings: their checks and refusals, in document 01's order, and nothing else. `filter_bank` hands them on.
 // None has a requires: any numbers and any buffer lengths may be handed in. H is the number of hops; a recording has H + 1 blocks.
+pub mod reorder;
+
 ghost use mathlib.Core.Path.{_≡_};
 ghost use Rattle.recording_calls.specs.Recordings.{recordedCode, recordedOut, playedCode, playedOut, shaped, innerOf};
 use analysis::Route;
+use orders::Order;
 
-// The coefficients of the H + 1 blocks of a recording of `hops` hops, by the route named, with long joints. 1: the route is not offered at n. 2: the number of
+// The coefficients of the H + 1 blocks of a recording of `hops` hops, by the route and in the order named, with long joints. 1: the route is not offered at n. 2: the number of
 // hops is not 1 to 4,095, or a buffer's length is not the stated one. Refused, `out` is left alone.
-pub fn analyse_recording(route: Route, n: usize, hops: usize, x: &[i16], out: &mut [i32]) -> u32
+pub fn analyse_recording(
+    route: Route,
+    order: Order,
+    n: usize,
+    hops: usize,
+    x: &[i16],
+    out: &mut [i32],
+) -> u32
     ensures { λ r. ⌜ r ≡ recordedCode route n hops (now (x .entry)) (now (out .entry)) ⌝ }
-    ensures { λ _. ⌜ now (out .exit) ≡ recordedOut route n hops (now (x .entry)) (now (out .entry)) ⌝ }
+    ensures { λ _. ⌜ now (out .exit) ≡ recordedOut route order n hops (now (x .entry)) (now (out .entry)) ⌝ }
 {
     if !checks::is_offered(route, n) {
         return 1;
@@ -24,15 +34,15 @@ pub fn analyse_recording(route: Route, n: usize, hops: usize, x: &[i16], out: &m
     if out.len() != blocks * m {
         return 2;
     }
-    recording::analyse(route, n, hops, x, out);
+    recording::analyse(route, order, n, hops, x, out);
     0
 }
 
-// The samples of a recording of `hops` hops, from a fresh stream, with long joints. 1: n is not tabled. 2: as above. 3: a coefficient is out of range,
+// The samples of a recording of `hops` hops, whose coefficients lie in the order named, from a fresh stream, with long joints. 1: n is not tabled. 2: as above. 3: a coefficient is out of range,
 // wherever it stands. Refused, `out` is left alone.
-pub fn synthesise_recording(n: usize, hops: usize, x: &[i32], out: &mut [i16]) -> u32
+pub fn synthesise_recording(order: Order, n: usize, hops: usize, x: &[i32], out: &mut [i16]) -> u32
     ensures { λ r. ⌜ r ≡ playedCode n hops (now (x .entry)) (now (out .entry)) ⌝ }
-    ensures { λ _. ⌜ now (out .exit) ≡ playedOut n hops (now (x .entry)) (now (out .entry)) ⌝ }
+    ensures { λ _. ⌜ now (out .exit) ≡ playedOut order n hops (now (x .entry)) (now (out .entry)) ⌝ }
 {
     if !cosine::is_tabled(n) {
         return 1;
@@ -51,7 +61,7 @@ pub fn synthesise_recording(n: usize, hops: usize, x: &[i32], out: &mut [i16]) -
     if !checks::in_range(x, count) {
         return 3;
     }
-    recording::synthesise(n, hops, x, out);
+    recording::synthesise(order, n, hops, x, out);
     0
 }
 

@@ -1,2 +1,4 @@
 pub mod ShareCalls
 pub mod ShareCallLaws
+pub mod RecordingShares
+pub mod RecordingShareLaws

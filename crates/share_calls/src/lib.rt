@@ -1,12 +1,14 @@
 // The public calls on shares: their checks and refusals, in the documents' order, and nothing else. What a share is, and which is the largest, is in `shares`. No public
 // call has a requires: any numbers and any lengths may be handed in.
+pub mod recording;
+
 ghost use mathlib.Core.Path.{_≡_};
 ghost use Prim.Native.Nat.{_*_, _/_};
 ghost use lib.ListN.{length};
 ghost use Rattle.share_calls.specs.ShareCalls.{refusedWith, flagOf, sizeCode, ranged, shareAnswer, nameCode, nameOut};
 
-// What `largest_share` answers: a number, whether any share is not zero, and then the block and the coefficient with the largest; all 0 beside a refusal. The block is 0,
-// the earlier, or 1, the later.
+// What the calls on shares answer: a number, whether any share is not zero, and then the block and the coefficient with the largest; all 0 beside a refusal. The block is 0,
+// the earlier, or 1, the later, of two, and of a recording its number there.
 pub struct Share {
     pub code: u32,
     pub any: bool,

@@ -14,11 +14,17 @@ array-borrow-prefix-c c = search needs
 slice-aggregate-there-and-back-2 : tie.Need-slice-aggregate-there-and-back-2
 slice-aggregate-there-and-back-2 c = sym (length-take-le _ _ (search needs))
 
+array-borrow-prefix-d : tie.Need-array-borrow-prefix-d
+array-borrow-prefix-d c = c .before .before .pre .2
+
+slice-aggregate-there-and-back-3 : tie.Need-slice-aggregate-there-and-back-3
+slice-aggregate-there-and-back-3 c = sym (length-take-le _ _ (c .before .before .before .pre .2))
+
 array-borrow-prefix-out : tie.Need-array-borrow-prefix-out
 array-borrow-prefix-out c = search needs
 
-slice-aggregate-there-and-back-3 : tie.Need-slice-aggregate-there-and-back-3
-slice-aggregate-there-and-back-3 c = sym (length-take-le _ _ (search needs))
+slice-aggregate-there-and-back-4 : tie.Need-slice-aggregate-there-and-back-4
+slice-aggregate-there-and-back-4 c = sym (length-take-le _ _ (search needs))
 
 there-and-back-requires : tie.Need-there-and-back-requires
 there-and-back-requires c κs = search needs
@@ -33,7 +39,9 @@ recorded-spec =
     slice-aggregate-there-and-back
     array-borrow-prefix-c
     slice-aggregate-there-and-back-2
-    array-borrow-prefix-out
+    array-borrow-prefix-d
     slice-aggregate-there-and-back-3
+    array-borrow-prefix-out
+    slice-aggregate-there-and-back-4
     there-and-back-requires
     returns)

@@ -56,6 +56,9 @@ untabled-requires-8 c κs = search needs
 near-requires : tie.Need-near-requires
 near-requires c κs = search needs
 
+recordings-requires : tie.Need-recordings-requires
+recordings-requires c κs = search needs
+
 returns : tie.Need-returns
 returns c = search needs
 
@@ -78,4 +81,5 @@ main-spec =
     untabled-requires-7
     untabled-requires-8
     near-requires
+    recordings-requires
     returns)

@@ -32,7 +32,7 @@ returns : tie.Need-returns
 unfolding pageCauses
 returns c =
     let a = c .before .before .before .args in
-    page-answer (a .n) (a .hops) (a .x .now) (a .out .now) (stop (sym (c .before .is-tabled .ensures) ∙ not-true (c .before .is-tabled .result) (c .if1 .taken)))
+    page-answer (a .order) (a .n) (a .hops) (a .x .now) (a .out .now) (stop (sym (c .before .is-tabled .ensures) ∙ not-true (c .before .is-tabled .result) (c .if1 .taken)))
 
 is-counted-requires : tie.Need-is-counted-requires
 is-counted-requires c κs = search needs
@@ -41,7 +41,7 @@ returns-2 : tie.Need-returns-2
 unfolding pageCauses
 returns-2 c =
     let a = start (c .before .before) .args in
-    page-answer (a .n) (a .hops) (a .x .now) (a .out .now)
+    page-answer (a .order) (a .n) (a .hops) (a .x .now) (a .out .now)
     (pass (good (c .before .before)) (stop (sym (c .before .is-counted .ensures) ∙ not-true (c .before .is-counted .result) (c .if2 .taken))))
 
 module _ (c : tie.Else2) where
@@ -72,7 +72,7 @@ unfolding pageCauses
 returns-3 c =
     let e = c .before in
     let a = begin e .args in
-    page-answer (a .n) (a .hops) (a .x .now) (a .out .now) (pass (good (e .before .before)) (pass (few e) (differs (c .if3 .taken))))
+    page-answer (a .order) (a .n) (a .hops) (a .x .now) (a .out .now) (pass (good (e .before .before)) (pass (few e) (differs (c .if3 .taken))))
 
 mul-if4 : tie.Need-mul-if4
 mul-if4 c = omega (arith, lines (c .before))
@@ -85,7 +85,7 @@ unfolding pageCauses
 returns-4 c =
     let e = c .before .before in
     let a = begin e .args in
-    page-answer (a .n) (a .hops) (a .x .now) (a .out .now)
+    page-answer (a .order) (a .n) (a .hops) (a .x .now) (a .out .now)
     (pass (good (e .before .before)) (pass (few e) (same (c .before .if3 .left) (differs (c .if4 .taken)))))
 
 in-range-requires : tie.Need-in-range-requires
@@ -100,7 +100,7 @@ returns-5 c =
     let f = c .before .before in
     let e = f .before .before in
     let a = begin e .args in
-    page-answer (a .n) (a .hops) (a .x .now) (a .out .now)
+    page-answer (a .order) (a .n) (a .hops) (a .x .now) (a .out .now)
     (pass (good (e .before .before)) (pass (few e) (same (f .before .if3 .left) (same (f .if4 .left)
     (stop (sym (c .before .in-range .ensures) ∙ not-true (c .before .in-range .result) (c .if5 .taken)))))))
 
@@ -124,7 +124,7 @@ returns-6 c =
     let f = g .before .before in
     let e = f .before .before in
     let a = begin e .args in
-    let t = page-answer (a .n) (a .hops) (a .x .now) (a .out .now)
+    let t = page-answer (a .order) (a .n) (a .hops) (a .x .now) (a .out .now)
     (pass (good (e .before .before)) (pass (few e) (same (f .before .if3 .left) (same (f .if4 .left) (pass (ranged g) none))))) in
     (t .0, c .before .before .put-page .ensures ∙ t .1)
 

@@ -30,7 +30,7 @@ returns : tie.Need-returns
 unfolding recordedCauses
 returns c =
     let a = c .before .before .args in
-    recorded-answer (a .route) (a .n) (a .hops) (a .x .now) (a .out .now) (stop (sym (c .before .is-offered .ensures) ∙ not-true (c .before .is-offered .result) (c .if1 .taken)))
+    recorded-answer (a .route) (a .order) (a .n) (a .hops) (a .x .now) (a .out .now) (stop (sym (c .before .is-offered .ensures) ∙ not-true (c .before .is-offered .result) (c .if1 .taken)))
 
 is-counted-requires : tie.Need-is-counted-requires
 is-counted-requires c κs = search needs
@@ -39,7 +39,7 @@ returns-2 : tie.Need-returns-2
 unfolding recordedCauses
 returns-2 c =
     let a = c .before .before .before .before .args in
-    recorded-answer (a .route) (a .n) (a .hops) (a .x .now) (a .out .now)
+    recorded-answer (a .route) (a .order) (a .n) (a .hops) (a .x .now) (a .out .now)
     (pass (good (c .before .before)) (stop (sym (c .before .is-counted .ensures) ∙ not-true (c .before .is-counted .result) (c .if2 .taken))))
 
 few : (c : tie.Else2) → counted (c .before .before .before .before .args .hops) ≡ true
@@ -64,7 +64,7 @@ unfolding recordedCauses
 returns-3 c =
     let e = c .before in
     let a = e .before .before .before .before .args in
-    recorded-answer (a .route) (a .n) (a .hops) (a .x .now) (a .out .now)
+    recorded-answer (a .route) (a .order) (a .n) (a .hops) (a .x .now) (a .out .now)
     (pass (good (e .before .before)) (pass (few e) (differs (c .if3 .taken))))
 
 mul-if4 : tie.Need-mul-if4
@@ -75,7 +75,7 @@ unfolding recordedCauses
 returns-4 c =
     let e = c .before .before in
     let a = e .before .before .before .before .args in
-    recorded-answer (a .route) (a .n) (a .hops) (a .x .now) (a .out .now)
+    recorded-answer (a .route) (a .order) (a .n) (a .hops) (a .x .now) (a .out .now)
     (pass (good (e .before .before)) (pass (few e) (same (c .before .if3 .left) (differs (c .if4 .taken)))))
 
 analyse-requires : tie.Need-analyse-requires
@@ -94,7 +94,7 @@ returns-5 c =
     let f = c .before .before .before in
     let e = f .before .before in
     let a = e .before .before .before .before .args in
-    let t = recorded-answer (a .route) (a .n) (a .hops) (a .x .now) (a .out .now)
+    let t = recorded-answer (a .route) (a .order) (a .n) (a .hops) (a .x .now) (a .out .now)
     (pass (good (e .before .before)) (pass (few e) (same (f .before .if3 .left) (same (f .if4 .left) none)))) in
     (t .0, c .before .analyse .ensures ∙ t .1)
 

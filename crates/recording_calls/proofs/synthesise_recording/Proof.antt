@@ -27,7 +27,7 @@ returns : tie.Need-returns
 unfolding playedCauses
 returns c =
     let a = c .before .before .args in
-    played-answer (a .n) (a .hops) (a .x .now) (a .out .now) (stop (sym (c .before .is-tabled .ensures) ∙ not-true (c .before .is-tabled .result) (c .if1 .taken)))
+    played-answer (a .order) (a .n) (a .hops) (a .x .now) (a .out .now) (stop (sym (c .before .is-tabled .ensures) ∙ not-true (c .before .is-tabled .result) (c .if1 .taken)))
 
 is-counted-requires : tie.Need-is-counted-requires
 is-counted-requires c κs = search needs
@@ -36,7 +36,7 @@ returns-2 : tie.Need-returns-2
 unfolding playedCauses
 returns-2 c =
     let a = c .before .before .before .before .args in
-    played-answer (a .n) (a .hops) (a .x .now) (a .out .now)
+    played-answer (a .order) (a .n) (a .hops) (a .x .now) (a .out .now)
     (pass (good (c .before .before)) (stop (sym (c .before .is-counted .ensures) ∙ not-true (c .before .is-counted .result) (c .if2 .taken))))
 
 few : (c : tie.Else2) → counted (c .before .before .before .before .args .hops) ≡ true
@@ -61,7 +61,7 @@ unfolding playedCauses
 returns-3 c =
     let e = c .before in
     let a = e .before .before .before .before .args in
-    played-answer (a .n) (a .hops) (a .x .now) (a .out .now) (pass (good (e .before .before)) (pass (few e) (differs (c .if3 .taken))))
+    played-answer (a .order) (a .n) (a .hops) (a .x .now) (a .out .now) (pass (good (e .before .before)) (pass (few e) (differs (c .if3 .taken))))
 
 mul-if4 : tie.Need-mul-if4
 mul-if4 c = search needs
@@ -71,7 +71,7 @@ unfolding playedCauses
 returns-4 c =
     let e = c .before .before in
     let a = e .before .before .before .before .args in
-    played-answer (a .n) (a .hops) (a .x .now) (a .out .now)
+    played-answer (a .order) (a .n) (a .hops) (a .x .now) (a .out .now)
     (pass (good (e .before .before)) (pass (few e) (same (c .before .if3 .left) (differs (c .if4 .taken)))))
 
 in-range-requires : tie.Need-in-range-requires
@@ -86,7 +86,7 @@ returns-5 c =
     let f = c .before .before in
     let e = f .before .before in
     let a = e .before .before .before .before .args in
-    played-answer (a .n) (a .hops) (a .x .now) (a .out .now)
+    played-answer (a .order) (a .n) (a .hops) (a .x .now) (a .out .now)
     (pass (good (e .before .before)) (pass (few e) (same (f .before .if3 .left) (same (f .if4 .left)
     (stop (sym (c .before .in-range .ensures) ∙ not-true (c .before .in-range .result) (c .if5 .taken)))))))
 
@@ -110,7 +110,7 @@ returns-6 c =
     let f = g .before .before in
     let e = f .before .before in
     let a = e .before .before .before .before .args in
-    let t = played-answer (a .n) (a .hops) (a .x .now) (a .out .now)
+    let t = played-answer (a .order) (a .n) (a .hops) (a .x .now) (a .out .now)
     (pass (good (e .before .before)) (pass (few e) (same (f .before .if3 .left) (same (f .if4 .left) (pass (ranged g) none))))) in
     (t .0, c .before .synthesise .ensures ∙ t .1)
 

@@ -4,14 +4,17 @@ use mathlib.Core.List.{List, [], _∷_, _++_}
 use Prim.Native.Nat.{ℕ, _+_, _-_, _*_, _/_, _≤_, _<_}
 use native.Mathlib.Nat.{mul-le-mul, mul-assoc}
 use native.Mathlib.Omega.{arith}
-use lib.ListN.{length, take, drop}
-use lib.IntN.{ℤ}
+use lib.ListN.{length, take, drop, length-append, length-drop, length-replicate}
+use lib.Seq.{length-take-le}
+use borrow.Author.Needs.{needs}
+use lib.IntN.{ℤ, pos}
 use Rattle.arithmetic.specs.Lists.{joined}
 use Rattle.arithmetic.specs.ListLaws.{part-length}
 use Rattle.arithmetic.specs.JoinLaws.{within, Joined, joined-none, joined-more, joined-all, joined-length}
 use Rattle.cosine.specs.LengthLaws.{length-of}
-use Rattle.recording.specs.Recordings.{part}
-use Rattle.recording.specs.RecordingLaws.{part-length-is, part-range}
+use Rattle.orders.specs.declared.Order.{Order}
+use Rattle.orders.specs.Orders.{part}
+use Rattle.recording.specs.RecordingLaws.{part-range}
 use Rattle.text.specs.Bytes.{lineFeed}
 use Rattle.page.specs.Page.{columns}
 use Rattle.page.specs.PageLaws.{line-long}
@@ -19,14 +22,14 @@ use Rattle.page.proofs.lines.put_page.Statement.{statement}
 use Rattle.page.proofs.lines.put_page.Tie as tie
 
 -- the lines of block b
-abbrev block : ℕ → List ℤ → ℕ → List ℕ
-block n x b = joined (n / 2 / 6) (λ j. columns b (part n x b) j ++ (lineFeed ∷ []))
+abbrev block : Order → (n blocks : ℕ) → List ℤ → ℕ → List ℕ
+block order n blocks x b = joined (n / 2 / 6) (λ j. columns b (part order (n / 2) blocks x b) j ++ (lineFeed ∷ []))
 
 abbrev Inv-loop : tie.InvT-loop
-Inv-loop n blocks x out₀ m lines size b₀ out b = (b ≤ blocks) × Joined (block n x) (n / 2 / 6 * 81) b out out₀
+Inv-loop order n blocks x out₀ m size room₀ b₀ out room b = (b ≤ blocks) × Joined (block order n blocks x) (n / 2 / 6 * 81) b out out₀ × (length room ≡ 108)
 
 abbrev μ-loop : tie.MeasureT-loop
-μ-loop n blocks x out₀ m lines size b₀ out b = blocks - b
+μ-loop order n blocks x out₀ m size room₀ b₀ out room b = blocks - b
 
 module _ (s : tie.Start Inv-loop μ-loop) where
   abbrev n : ℕ
@@ -47,20 +50,27 @@ module _ (s : tie.Start Inv-loop μ-loop) where
   out-room : length (s .args .out .now) ≡ s .args .blocks * (lines * 81)
   out-room = s .pre .1 .1 ∙ mul-assoc (s .args .blocks) lines 81
 
-  block-long : (b : ℕ) → b < s .args .blocks → length (block n x b) ≡ lines * 81
+  abbrev here : ℕ → List ℕ
+  here = block (s .args .order) n (s .args .blocks) x
+
+  block-long : (b : ℕ) → b < s .args .blocks → length (here b) ≡ lines * 81
   block-long b p =
-      joined-length (λ j. columns b (part n x b) j ++ (lineFeed ∷ [])) 81 lines
-      (λ j q. line-long b (omega (arith, s .pre .0 .1)) (part n x b) (part-range n (s .pre .0 .0) (s .args .blocks) x (s .pre .1 .0) (s .pre .0 .2) b p) j) lines (omega arith)
+      let c = part (s .args .order) (n / 2) (s .args .blocks) x b in
+      joined-length (λ j. columns b c j ++ (lineFeed ∷ [])) 81 lines
+      (λ j q. line-long b (omega (arith, s .pre .0 .1)) c (part-range n (s .pre .0 .0) (s .args .blocks) (s .args .order) x (s .pre .1 .0) (s .pre .0 .2) b p) j) lines (omega arith)
 
 mul-size : tie.Need-mul-size Inv-loop μ-loop
 mul-size c = omega (arith, few (c .before))
 
+room-requires : tie.Need-room-requires Inv-loop μ-loop
+room-requires c κs = search needs
+
 loop-holds : tie.Need-loop-holds Inv-loop μ-loop
-loop-holds c = let s = c .before in (omega arith, joined-none (block (n s) (x s)) (lines s * 81) (s .args .out .now))
+loop-holds c = let s = c .before .before in (omega arith, joined-none (here s) (lines s * 81) (s .args .out .now), ap length (c .room .ensures) ∙ length-replicate 108 (pos 0))
 
 module _ (c : tie.In-loop Inv-loop μ-loop) where
   abbrev begin : tie.Start Inv-loop μ-loop
-  begin = c .before .before .before
+  begin = c .before .before .before .before
 
   abbrev turn : ℕ
   turn = c .before .loop .b
@@ -68,14 +78,8 @@ module _ (c : tie.In-loop Inv-loop μ-loop) where
   abbrev size : ℕ
   size = lines begin * 81
 
-  abbrev M : ℕ
-  M = n begin / 2
-
   less : turn < begin .args .blocks
   less = c .loop-test .taken
-
-  covered : turn * M + M ≤ length (x begin)
-  covered = omega (arith, begin .pre .1 .0, within turn (begin .args .blocks) M less)
 
   room : turn * size + size ≤ length (begin .args .out .now)
   room = omega (arith, out-room begin, within turn (begin .args .blocks) size less)
@@ -87,82 +91,61 @@ module _ (c : tie.In-loop Inv-loop μ-loop) where
   turn-most : turn ≤ 4096
   turn-most = omega (arith, less, begin .pre .0 .1)
 
-  at-few : turn * M ≤ 4096 * 108
-  at-few = mul-le-mul turn-most (let h : M ≤ 108 = omega (arith, fit begin, few begin) in h)
-
   place-few : turn * size ≤ 4096 * 1458
   place-few = mul-le-mul turn-most (let h : size ≤ 1458 = omega (arith, few begin) in h)
-
-mul-at : tie.Need-mul-at Inv-loop μ-loop
-mul-at c = omega (arith, at-few c)
 
 mul-place : tie.Need-mul-place Inv-loop μ-loop
 mul-place c = omega (arith, place-few c)
 
-add-put-block : tie.Need-add-put-block Inv-loop μ-loop
-add-put-block c = omega (arith, at-few c, fit (begin c), few (begin c))
+-- the part of the room that is lent
+lent-long : (c : tie.In-loop Inv-loop μ-loop) → let m = n (begin c) / 2 in length (take m (c .before .loop .room)) ≡ m
+lent-long c = length-take-le (n (begin c) / 2) (c .before .loop .room) (omega (arith, c .before .loop .inv .2, fit (begin c), few (begin c)))
 
-mul-put-block : tie.Need-mul-put-block Inv-loop μ-loop
-mul-put-block c = omega (arith, at-few c)
+array-borrow-prefix-room : tie.Need-array-borrow-prefix-room Inv-loop μ-loop
+array-borrow-prefix-room c = omega (arith, c .before .loop .inv .2, fit (begin c), few (begin c))
 
-sub-put-block : tie.Need-sub-put-block Inv-loop μ-loop
-sub-put-block c = omega arith
+slice-aggregate-put-part : tie.Need-slice-aggregate-put-part Inv-loop μ-loop
+slice-aggregate-put-part c = sym (lent-long (c .before))
 
-part-put-block-start : tie.Need-part-put-block-start Inv-loop μ-loop
-part-put-block-start c = omega arith
+add-put-part : tie.Need-add-put-part Inv-loop μ-loop
+add-put-part c = let i = c .before in omega (arith, place-few i, few (begin i))
 
-part-put-block-end : tie.Need-part-put-block-end Inv-loop μ-loop
-part-put-block-end c = omega (arith, covered c)
+sub-put-part : tie.Need-sub-put-part Inv-loop μ-loop
+sub-put-part c = omega arith
 
-add-put-block-2 : tie.Need-add-put-block-2 Inv-loop μ-loop
-add-put-block-2 c = omega (arith, place-few (c .before), few (begin (c .before)))
+part-put-part-start : tie.Need-part-put-part-start Inv-loop μ-loop
+part-put-part-start c = omega arith
 
-sub-put-block-2 : tie.Need-sub-put-block-2 Inv-loop μ-loop
-sub-put-block-2 c = omega arith
+part-put-part-end : tie.Need-part-put-part-end Inv-loop μ-loop
+part-put-part-end c = let i = c .before in omega (arith, room i, out-long i)
 
-part-put-block-start-2 : tie.Need-part-put-block-start-2 Inv-loop μ-loop
-part-put-block-start-2 c = omega arith
-
-part-put-block-end-2 : tie.Need-part-put-block-end-2 Inv-loop μ-loop
-part-put-block-end-2 c = omega (arith, room (c .before), out-long (c .before))
-
--- the coefficients of block b, as the code lends them
-module _ (c : tie.In-loop Inv-loop μ-loop) where
-  abbrev lent : List ℤ
-  lent = take (turn c * M c + M c - turn c * M c) (drop (turn c * M c) (x (begin c)))
-
-  lent-is : lent ≡ part (n (begin c)) (x (begin c)) (turn c)
-  unfolding part
-  lent-is = let e : turn c * M c + M c - turn c * M c ≡ M c = omega arith in rw e
-
-put-block-requires : tie.Need-put-block-requires Inv-loop μ-loop
-put-block-requires c κs =
+put-part-requires : tie.Need-put-part-requires Inv-loop μ-loop
+put-part-requires c κs =
     let i = c .before .before in
     let s = begin i in
-    let b = turn i in
-    let t = s .pre .0 .0 in (
-      omega (arith, less i, s .pre .0 .1),
-      few s,
-      ap length (lent-is i) ∙ part-length-is (n s) t (s .args .blocks) (x s) (s .pre .1 .0) (s .pre .0 .2) b (less i) ∙ sym (fit s),
-      rw (lent-is i) (part-range (n s) t (s .args .blocks) (x s) (s .pre .1 .0) (s .pre .0 .2) b (less i)),
-      part-length (i .before .loop .out) (b * size i) (b * size i + size i - b * size i) (size i) (omega arith) (omega (arith, room i, out-long i)),
+    let b = turn i in (
+      (fit s, omega (arith, fit s, few s), s .pre .0 .1, less i),
+      (s .pre .0 .2, s .pre .1 .0, lent-long i, part-length (i .before .loop .out) (b * size i) (b * size i + size i - b * size i) (size i) (omega arith) (omega (arith, room i, out-long i))),
     )
 
 add-b : tie.Need-add-b Inv-loop μ-loop
-add-b c = omega (arith, turn-most (c .before .before .before .before .before))
+add-b c = omega (arith, turn-most (c .before .before .before .before .before .before))
 
 loop-less : tie.Need-loop-less Inv-loop μ-loop
-loop-less c = omega (arith, less (c .before .before .before .before .before))
+loop-less c = omega (arith, less (c .before .before .before .before .before .before))
 
 loop-again : tie.Need-loop-again Inv-loop μ-loop
 loop-again c =
-    let i = c .before .before .before .before .before in
+    let i = c .before .before .before .before .before .before in
     let s = begin i in
     let b = turn i in
-    let y = c .before .before .put-block in (
+    let m = n s / 2 in
+    let y = c .before .before .before .put-part in
+    let lent = y .last .1 .1 .1 .1 .1 .0 in (
       omega (arith, less i),
-      joined-more (block (n s) (x s)) (size i) (s .args .blocks) (block-long s) b (b * size i + size i - b * size i) (less i) (i .before .loop .out) (s .args .out .now) (y .last .1 .1 .1 .0) (i .before .loop .inv .1)
-          (room i) (omega arith) (y .ensures ∙ ap (λ (l : List ℤ). joined (lines s) (λ j. columns b l j ++ (lineFeed ∷ []))) (lent-is i)),
+      joined-more (here s) (size i) (s .args .blocks) (block-long s) b (b * size i + size i - b * size i) (less i) (i .before .loop .out) (s .args .out .now) (y .last .1 .1 .1 .1 .1 .1 .0) (i .before .loop .inv .1)
+          (room i) (omega arith) (y .ensures),
+      length-append lent (drop m (i .before .loop .room)) ∙ omega (arith, y .kept .1 .1 .1 .1 .1 .0, lent-long i, length-drop m (i .before .loop .room), i .before .loop .inv .2, fit s, few s),
     )
 
 same-length : tie.Need-same-length Inv-loop μ-loop
@@ -170,8 +153,8 @@ same-length c = c .before .loop .inv .1 .room
 
 returns : tie.Need-returns Inv-loop μ-loop
 returns c =
-    let s = c .before .before .before in
-    let g = block (n s) (x s) in
+    let s = c .before .before .before .before in
+    let g = here s in
     let e : c .before .loop .b ≡ s .args .blocks = omega arith in
     joined-all g (lines s * 81) (c .before .loop .b) (c .before .loop .out) (s .args .out .now) (c .before .loop .inv .1) (out-room s ∙ ap (λ (k : ℕ). k * (lines s * 81)) (sym e)) ∙ ap (λ (k : ℕ). joined k g) e
 
@@ -182,19 +165,16 @@ put-page-spec =
     Inv-loop
     μ-loop
     mul-size
+    room-requires
     loop-holds
-    mul-at
     mul-place
-    add-put-block
-    mul-put-block
-    sub-put-block
-    part-put-block-start
-    part-put-block-end
-    add-put-block-2
-    sub-put-block-2
-    part-put-block-start-2
-    part-put-block-end-2
-    put-block-requires
+    array-borrow-prefix-room
+    slice-aggregate-put-part
+    add-put-part
+    sub-put-part
+    part-put-part-start
+    part-put-part-end
+    put-part-requires
     add-b
     loop-less
     loop-again
