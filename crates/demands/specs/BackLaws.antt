@@ -2,15 +2,14 @@
 -- is defined by.
 use mathlib.Core.Path.{_≡_, sym, ap, _∙_}
 use mathlib.Core.List.{List}
-use Prim.Native.Nat.{ℕ, suc, _+_, _*_, _/_, _%_, _^_, _≤_, _<_}
+use Prim.Native.Nat.{ℕ, suc, _+_, _*_, _/_, _%_, _≤_, _<_}
 use native.Mathlib.Omega.{arith}
 use lib.Dec.{T}
 use lib.ListN.{length}
-use lib.IntN.{ℤ, pos, natAbs, _-ℤ_, _+ℤ_}
+use lib.IntN.{ℤ, pos, natAbs, _-ℤ_}
 use Rattle.arithmetic.specs.Lists.{at, joined}
-use Rattle.arithmetic.specs.Rounding.{rnd, clamp, Sample}
-use Rattle.cosine.specs.Kernels.{tabled, rising, falling}
-use Rattle.transform.specs.Synthesis.{V′}
+use Rattle.arithmetic.specs.Rounding.{Sample}
+use Rattle.cosine.specs.Kernels.{tabled}
 use Rattle.stream.specs.Steps.{returned}
 use Rattle.stream.specs.NextLaws.{returned-long, returned-at}
 use Rattle.analysis.specs.declared.Route.{Route}
@@ -27,7 +26,7 @@ use Rattle.recording_calls.specs.Recordings.{playedCode, playedOut, innerOf}
 use Rattle.checks.specs.LimitLaws.{counted-some}
 use Rattle.recording_calls.specs.RecordingLaws.{Recorded, recorded-facts, recorded-taken, Played, played-facts, played-taken, shaped-of}
 use Rattle.demands.specs.Steps.{Recording, Brought, provedChange}
-use Rattle.demands.specs.RecordingLaws.{hop-of, back-near, back-same, near-asked, restored}
+use Rattle.demands.specs.RecordingLaws.{overlapped, hop-of, back-near, back-same, near-asked, restored}
 use Rattle.demands.specs.Recordings.{ByOneCall, BlockByBlock, Back, BackOneQ, SharperBack}
 
 -- ---- what a synthesis left: the samples of hop h are what the tail of block h and block h + 1 give
@@ -47,7 +46,7 @@ module _ (order : Order) (N H : ℕ) (X out : List ℤ) (played : playedCode N H
   left-long = ap length left-is ∙ joined-length hops (N / 2) H (λ h p. returned-long N blocks (suc h)) H (omega arith)
 
   pub left-at : (h n : ℕ) → h < H → n < N / 2 →
-      at (playedOut order N H X out) (h * (N / 2) + n) ≡ clamp (rnd (V′ N (rising 0 N) (falling 0 N) (blocks h) (N / 2 + n) +ℤ V′ N (rising 0 N) (falling 0 N) (blocks (suc h)) n) (N * 2 ^ 30))
+      at (playedOut order N H X out) (h * (N / 2) + n) ≡ overlapped N 0 0 0 (blocks h) (blocks (suc h)) n
   left-at h n p q =
       ap (λ (l : List ℤ). at l (h * (N / 2) + n)) left-is
       ∙ joined-at hops (N / 2) H (λ h p. returned-long N blocks (suc h)) (pos 0) H h n (omega arith) p q

@@ -1,6 +1,7 @@
--- The three demands, proved: `demand-1`, `demand-2` and `demand-3` are the records of Demands, `either-order` is that of orders, `levels-kept` is that of levels, and `beyond` what is proved beyond the third.
+-- The three demands, proved: `demand-1`, `demand-2` and `demand-3` are the records of Demands, `either-order` is that of orders, `levels-kept` is that of levels, `sparse-kept` that of sparse changes, and `beyond` what is proved beyond the third.
+use Rattle.analysis.specs.declared.Route.the-variants.{Direct}
 use Rattle.recording_calls.specs.Recordings.{playedOut}
-use Rattle.demands.specs.Demands.{Demand-1, Demand-2, Either-order, OneQ, Demand-3, Levels-kept, Beyond}
+use Rattle.demands.specs.Demands.{Demand-1, Demand-2, Either-order, OneQ, Demand-3, Levels-kept, Sparse-kept, Beyond}
 use Rattle.demands.specs.RecordingLaws.{proved-one}
 use Rattle.demands.specs.AnswerLaws as Answers
 use Rattle.demands.specs.DefinitionLaws as Definitions
@@ -10,6 +11,7 @@ use Rattle.demands.specs.ChainLaws.{calls-answered, calls-there-and-back
 use Rattle.demands.specs.MovedLaws as Moved
 use Rattle.demands.specs.StoredLaws as Stored
 use Rattle.demands.specs.StoredListLaws as StoredLists
+use Rattle.demands.specs.SparseLaws as Sparse
 use Rattle.demands.specs.BackLaws.{back-one, back-by-one-call, back-block-by-block}
 
 pub demand-1 : Demand-1
@@ -54,6 +56,15 @@ levels-kept = record {
   level-calls = λ N state z H tables routes x rec offers given. StoredLists.load-calls-kept N state z offers H tables routes x rec given;
   once = Stored.stored-once;
   blocks = λ N H tables routes order x c out z rec given. Stored.stored-back N H tables routes order x c out z rec given;
+}
+
+pub sparse-kept : Sparse-kept
+sparse-kept = record {
+  list = Sparse.sparse-list;
+  calls = Sparse.sparse-calls;
+  once = λ N H T order x c out s g e. (Sparse.sparse-once N H T order x c g out s e, λ Q h. back-by-one-call N H Q Direct order x c out s h e .0);
+  blocks = λ N H T routes order x c out r g e. (Sparse.sparse-blocks N H T routes order x c g out r e, λ Q h. back-block-by-block N H Q routes order x c out r h e .0);
+  one = Sparse.sparse-one;
 }
 
 pub beyond : Beyond

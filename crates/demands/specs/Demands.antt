@@ -1,5 +1,5 @@
 -- THE THREE DEMANDS, for every signal, over the definitions that the contracts of the public calls cite (specs/ of block_calls, stream_calls,
--- state_calls, recording_calls, level_calls, share_calls, page, listing and, for an order's number, orders). Each record below is one demand or a part of it; the theorems `demand-1`, `demand-2`, `either-order`, `demand-3`, `levels-kept` and `beyond` of DemandLaws prove them.
+-- state_calls, recording_calls, level_calls, share_calls, page, listing and, for an order's number, orders). Each record below is one demand or a part of it; the theorems `demand-1`, `demand-2`, `either-order`, `demand-3`, `levels-kept`, `sparse-kept` and `beyond` of DemandLaws prove them.
 --
 -- What the contracts add: a call ends on any numbers and any buffer lengths and never overflows, and what it returns and leaves is what these
 -- definitions say. A check of the public calls' crates proves that of the code.
@@ -43,6 +43,7 @@ use Rattle.demands.specs.Chains.{calls, held}
 use Rattle.demands.specs.Stored.{Stored, StoredBlocks, StoredOnce, StoredReturned, StoredBack}
 use Rattle.demands.specs.StoredLists.{LoadOffer, loadTurns, loadFinal, loadCalls, loadHeld, asTurns, StoredLoads}
 use Rattle.demands.specs.Recordings.{ByOneCall, BlockByBlock, Back, BackOneQ, SharperBack, offering, outputs}
+use Rattle.demands.specs.Sparse.{SparseNumbered, SparseOnce, SparseBlocks, sparseDistance, SparselyReturned, SparselyBack}
 use Rattle.demands.specs.Answers.{Tabled, InRange, AnalyseAnswers, FreshAnswers, StepAnswers, StateFreshAnswers, StateStepAnswers, RecordedAnswers, PlayedAnswers, ReorderAnswers, NumberAnswers, InnerAnswers, PageAnswers, Ruled, TableAnswers, ShareAnswers, NameAnswers, RecordingShareAnswers, RecordingNameAnswers, QuantiseAnswers, DequantiseAnswers, ToldAnswers, TellAnswers, StepLevelsAnswers, StateStepLevelsAnswers, ReportAnswers, ListingAnswers}
 
 -- ================ DEMAND 1: the whole work, or the numbered refusal of document 01, for recordings, pages, numbered blocks, joints, step tables, shares and orders as document 02, P1, P2, P6, P7, P8, P9 and P10, has it, at P4's six lengths, the short route at four, with stream and buffers as they were
@@ -308,6 +309,21 @@ pub record Levels-kept : Type 0 where
       StoredBack N H tables (λ b. route) x (playedOut order N H c out)
   pub blocks : (N H : ℕ) (tables : ℕ → List ℕ) (routes : ℕ → Route) (order : Order) (x c out : List ℤ) → playedCode N H c out ≡ 0 → Recording N H x → StoredBlocks N H tables routes order x c →
       StoredBack N H tables routes x (playedOut order N H c out)
+
+-- ================ SPARSE CHANGES (P11): where the changes of a block are at most T in all, each sample whose two blocks were analysed directly returns within (T + 4N) / 8N, the larger T of the two; the distance for Q holds beside it
+pub record Sparse-kept : Type 0 where
+  -- demand 3's conditions, with T for Q: of a list of steps, by value and on one state
+  pub list : (N : ℕ) → Tabled N → (H : ℕ) (T : ℕ → ℕ) (routes : ℕ → Route) (x : List ℤ) → Recording N H x → (offers : List Offer) → SparseNumbered N H T routes x (turns N offers) →
+      SparselyReturned N H T routes x (turns N offers) (final N offers)
+  pub calls : (N : ℕ) (state : List ℤ) → freshCode N state ≡ 0 → (H : ℕ) (T : ℕ → ℕ) (routes : ℕ → Route) (x : List ℤ) → Recording N H x → (offers : List Offer) →
+      SparseNumbered N H T routes x (calls (freshState N state) offers) → SparselyReturned N H T routes x (calls (freshState N state) offers) (held (freshState N state) offers)
+  -- of the calls over whole recordings, analysed by one call and block by block
+  pub once : (N H : ℕ) (T : ℕ → ℕ) (order : Order) (x c out : List ℤ) → ((i : ℕ) → i < length x → Sample (at x i)) → SparseOnce N H T order x c → playedCode N H c out ≡ 0 →
+      SparselyBack N H T (λ b. Direct) x (playedOut order N H c out) × ((Q : ℕ → ℕ) → ByOneCall N H Q Direct order x c → Back N H Q (λ b. Direct) x (playedOut order N H c out))
+  pub blocks : (N H : ℕ) (T : ℕ → ℕ) (routes : ℕ → Route) (order : Order) (x c out : List ℤ) → Recording N H x → SparseBlocks N H T routes order x c → playedCode N H c out ≡ 0 →
+      SparselyBack N H T routes x (playedOut order N H c out) × ((Q : ℕ → ℕ) → BlockByBlock N H Q routes order x c → Back N H Q routes x (playedOut order N H c out))
+  -- with one T for all blocks T stands there
+  pub one : (N T : ℕ) → sparseDistance N T T ≡ (T + 4 * N) / (8 * N)
 
 -- ================ BEYOND DEMAND 3: each sample within (3 Q + 36) / 64, equal where both its blocks have a Q up to 9, with Q + 7 for Q after the short route
 pub record Beyond : Type 0 where

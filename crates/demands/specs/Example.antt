@@ -1,5 +1,6 @@
 -- Lists of steps at N = 12: a recording of three hops, through joints that pass from long to short and back, the same with one block changed more than the others, and a
--- recording of a single hop, their blocks as they are brought, and what is offered, refused steps among it; and their blocks with long joints for the calls over whole recordings. ExampleLaws applies the theorems to them.
+-- recording of a single hop, also with one of its coefficients moved far; their blocks as they are brought, and what is offered, refused steps among it; and their blocks with long joints for the calls over whole recordings.
+-- ExampleLaws, RecordingExampleLaws and SparseExampleLaws apply the theorems to them.
 use mathlib.Core.List.{List, [], _∷_, _++_}
 use Prim.Native.Nat.{ℕ, zero, suc}
 use lib.ListN.{replicate}
@@ -40,10 +41,12 @@ changed [] changes = []
 changed (c ∷ cs) [] = c ∷ cs
 changed (c ∷ cs) (d ∷ ds) = (c +ℤ d) ∷ changed cs ds
 
+-- block 0 as it was analysed
+unfoldable pub analysed-0 : List ℤ
+analysed-0 = minus 383693 ∷ minus 357261 ∷ minus 306812 ∷ minus 235988 ∷ minus 148949 ∷ minus 50964 ∷ []
+
 unfoldable pub block-0 : List ℤ
-block-0 = changed
-    (minus 383693 ∷ minus 357261 ∷ minus 306812 ∷ minus 235988 ∷ minus 148949 ∷ minus 50964 ∷ [])
-    (pos 7 ∷ minus 7 ∷ pos 3 ∷ pos 0 ∷ minus 1 ∷ pos 5 ∷ [])
+block-0 = changed analysed-0 (pos 7 ∷ minus 7 ∷ pos 3 ∷ pos 0 ∷ minus 1 ∷ pos 5 ∷ [])
 
 unfoldable pub block-1 : List ℤ
 block-1 = changed
@@ -89,6 +92,26 @@ knock-1 = changed
     (pos 383738 ∷ minus 1125064 ∷ pos 1789764 ∷ minus 2332627 ∷ pos 2716659 ∷ minus 2915535 ∷ [])
     (minus 1 ∷ pos 7 ∷ pos 7 ∷ minus 7 ∷ pos 4 ∷ pos 0 ∷ [])
 
+-- ---- sparse changes: one coefficient of a block moved far, and one that moves no sample
+unfoldable pub sparse-0 : List ℤ
+sparse-0 = changed analysed-0 (pos 0 ∷ pos 0 ∷ minus 1000 ∷ pos 0 ∷ pos 0 ∷ pos 0 ∷ [])
+
+unfoldable pub slight-0 : List ℤ
+slight-0 = changed analysed-0 (pos 0 ∷ pos 0 ∷ pos 0 ∷ pos 47 ∷ pos 0 ∷ pos 0 ∷ [])
+
+-- the changes of a block in all, knock-1 being the second one, and the largest of them
+unfoldable pub totals : ℕ → ℕ
+totals zero = 1000
+totals (suc b) = 26
+
+unfoldable pub largests : ℕ → ℕ
+largests zero = 1000
+largests (suc b) = 7
+
+unfoldable pub slight-totals : ℕ → ℕ
+slight-totals zero = 47
+slight-totals (suc b) = 26
+
 -- ---- the lists
 -- a buffer of six, and one of five
 unfoldable pub room : List ℤ
@@ -126,6 +149,14 @@ uneven-offers = offer 0 0 0 block-0 room ∷ offer 1 0 1 sharp-1 room ∷ offer 
 unfoldable pub knock-offers : List Offer
 knock-offers = offer 0 0 0 block-0 room ∷ offer 1 0 0 loud room ∷ offer 1 0 0 knock-1 room ∷ []
 
+-- the same with the sparse changes, the second block too early and damaged before it is taken
+unfoldable pub sparse-offers : List Offer
+sparse-offers = offer 1 0 0 knock-1 room ∷ offer 0 0 0 sparse-0 room ∷ offer 1 0 0 loud room ∷ offer 1 0 0 knock-1 room ∷ []
+
+-- the first block again
+unfoldable pub slight-offers : List Offer
+slight-offers = offer 0 0 0 slight-0 room ∷ offer 0 0 0 slight-0 room ∷ offer 1 0 0 knock-1 room ∷ []
+
 -- a stream that expects the last number
 unfoldable pub at-the-last : Stream
 at-the-last = record { n = 12; expected = 4294967295; shape = 1; tail = replicate storage (pos 0) }
@@ -139,3 +170,6 @@ hops-room = room ++ room ++ room
 
 unfoldable pub knock-whole : List ℤ
 knock-whole = block-0 ++ knock-1
+
+unfoldable pub sparse-whole : List ℤ
+sparse-whole = sparse-0 ++ knock-1

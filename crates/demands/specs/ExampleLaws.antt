@@ -44,7 +44,7 @@ use Rattle.demands.specs.ChainLaws.{fresh-calls, calls-there-and-back, c
 use Rattle.demands.specs.AnswerLaws.{demand-1}
 use Rattle.demands.specs.DefinitionLaws.{demand-2}
 use Rattle.demands.specs.Answers.{SoundTail}
-use Rattle.demands.specs.Example.{minus, recording, routes, knock, directly, changed, block-0, block-1, block-2, block-3, sharp-1, sharp-2, knock-1, room, small-room, five, loud, low, offer, offers, coarse-3, bounds, uneven-offers, knock-offers, at-the-last, whole, hops-room, knock-whole}
+use Rattle.demands.specs.Example.{minus, recording, routes, knock, directly, changed, analysed-0, block-0, block-1, block-2, block-3, sharp-1, sharp-2, knock-1, room, small-room, five, loud, low, offer, offers, coarse-3, bounds, uneven-offers, knock-offers, sparse-0, slight-0, sparse-offers, slight-offers, at-the-last, whole, hops-room, knock-whole, sparse-whole}
 
 -- ---- the definitions that the tests below open, under one name
 cosines : Unit {0}
@@ -60,7 +60,7 @@ unfolding U V′ Y.fresh Y.sample Y.hop Y.newTail within tailLimit fresh soundTa
 synthesis = tt
 
 example : Unit {0}
-unfolding answered run taken offers-of turns silence padded standing block recording routes knock directly changed block-0 block-1 block-2 block-3 sharp-1 sharp-2 knock-1 room small-room five loud low offers coarse-3 bounds uneven-offers knock-offers
+unfolding answered run taken offers-of turns silence padded standing block recording routes knock directly changed analysed-0 block-0 block-1 block-2 block-3 sharp-1 sharp-2 knock-1 room small-room five loud low offers coarse-3 bounds uneven-offers knock-offers sparse-0 slight-0 sparse-offers slight-offers
 example = tt
 
 unfoldable pub computed : Unit {0}
@@ -68,7 +68,7 @@ unfolding floor rnd clamp sum table all every cosines analysis synthesis example
 computed = tt
 
 unfoldable pub answers : Unit {0}
-unfolding computed shortLengths shortTabled R.offered offered analyseCauses analyseCode analyseOut counted joined place blockAt coefficientAt part laid recordedCauses recordedCode recordedOut recordingOf playedCauses playedCode whole hops-room knock-whole
+unfolding computed shortLengths shortTabled R.offered offered analyseCauses analyseCode analyseOut counted joined place blockAt coefficientAt part laid recordedCauses recordedCode recordedOut recordingOf playedCauses playedCode whole hops-room knock-whole sparse-whole
 answers = tt
 
 -- the numbers that the steps return
@@ -133,7 +133,7 @@ pub knock-recorded : Recording 12 1 knock
 knock-recorded = recorded-of 1 knock (lit≤ tt) (unfold knock in refl) knock-samples
 
 -- ---- the blocks: each of the six coefficients is within q of what the block's own route gives, 7 for all blocks but one
-near : (q : ℕ) → (ℕ → Route) → List ℤ → (b left right : ℕ) → List ℤ → Bool
+unfoldable pub near : (q : ℕ) → (ℕ → Route) → List ℤ → (b left right : ℕ) → List ℤ → Bool
 near q routes x b left right c = all 6 (λ k. leb (natAbs (at c k -ℤ at (coefficients (routes b) 12 left right (block 12 x b)) k)) q)
 
 near-0 : T (near 7 routes recording 0 0 0 block-0)
@@ -160,11 +160,11 @@ knock-near-0 : T (near 7 directly knock 0 0 0 block-0)
 unfolding computed near
 knock-near-0 = tt
 
-knock-near-1 : T (near 7 directly knock 1 0 0 knock-1)
+pub knock-near-1 : T (near 7 directly knock 1 0 0 knock-1)
 unfolding computed near
 knock-near-1 = tt
 
-brought : (Q : ℕ → ℕ) (routes : ℕ → Route) (H : ℕ) (x : List ℤ) (b l r : ℕ) (c : List ℤ) → b ≤ H → T (offered (routes b) 12) → length c ≡ 6 → T (near (Q b) routes x b l r c) → Brought 12 H Q routes x b l r c
+pub brought : (Q : ℕ → ℕ) (routes : ℕ → Route) (H : ℕ) (x : List ℤ) (b l r : ℕ) (c : List ℤ) → b ≤ H → T (offered (routes b) 12) → length c ≡ 6 → T (near (Q b) routes x b l r c) → Brought 12 H Q routes x b l r c
 unfolding near
 brought Q routes H x b l r c p o e t =
     let off : ℕ → ℕ = λ k. natAbs (at c k -ℤ at (coefficients (routes b) 12 l r (block 12 x b)) k) in

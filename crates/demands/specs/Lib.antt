@@ -9,6 +9,8 @@ pub mod ThereAndBackLaws
 pub mod ChainLaws
 pub mod Recordings
 pub mod BackLaws
+pub mod Sparse
+pub mod SparseLaws
 pub mod Answers
 pub mod Demands
 pub mod OrderLaws
@@ -35,6 +37,7 @@ pub mod TurnLaws
 pub mod Example
 pub mod ExampleLaws
 pub mod RecordingExampleLaws
+pub mod SparseExampleLaws
 pub mod LevelExampleLaws
 pub mod ShareExampleLaws
 pub mod OrderExampleLaws

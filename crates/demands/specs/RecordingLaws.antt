@@ -69,6 +69,10 @@ restored Q r r′ near same = record { near = rw (change-one Q r r′) at near; 
 abbrev pub windowed : (N l r : ℕ) → List ℤ → ℕ → ℤ
 windowed N l r x = y N (rising l N) (falling r N) x
 
+-- the sample that comes back at place n of a hop from the coefficients c₁ and c₂ of the two blocks that share it, which meet in a joint of the shape j
+abbrev pub overlapped : (N l j r : ℕ) → (c₁ c₂ : List ℤ) → ℕ → ℤ
+overlapped N l j r c₁ c₂ n = clamp (rnd (V′ N (rising l N) (falling j N) c₁ (N / 2 + n) +ℤ V′ N (rising j N) (falling r N) c₂ n) (N * 2 ^ 30))
+
 -- ---- sample i of a recording of H hops: its hop, and its place there
 pub hop-of : (N : ℕ) → T (tabled N) → (H i : ℕ) → i < H * (N / 2) → Place (N / 2) H i
 hop-of N t H i p = place-of (N / 2) H i (omega (arith, length-of N t .twelve, length-of N t .some)) p
@@ -124,10 +128,6 @@ module _ (N : ℕ) (t : T (tabled N)) (H : ℕ) (x : List ℤ) (rec : Recording 
     abbrev Q′ : ℕ
     Q′ = provedChange (Q b) (Q (suc b)) (routes b) (routes (suc b))
 
-    -- the sample that comes back at place n
-    abbrev back : ℕ → ℤ
-    back n = clamp (rnd (V′ N (rising l N) (falling j N) c₁ (N / 2 + n) +ℤ V′ N (rising j N) (falling r N) c₂ n) (N * 2 ^ 30))
-
     nb : Neighbours N (rising l N) (falling j N) (rising j N) (falling r N) (block N x b) (block N x (suc b))
     nb = neighbours b l j r
 
@@ -137,10 +137,10 @@ module _ (N : ℕ) (t : T (tabled N)) (H : ℕ) (x : List ℤ) (rec : Recording 
     near₂ : (k : ℕ) → k < N / 2 → natAbs (at c₂ k -ℤ X N (windowed N j r (block N x (suc b))) k) ≤ Q′
     near₂ k p = le-trans (near-direct N j r (block N x (suc b)) (windowed-size (suc b) j r) (Q (suc b)) (routes (suc b)) (brought₂ .offers) (at c₂ k) k p (brought₂ .near k p)) (change-second (Q b) (Q (suc b)) (routes b) (routes (suc b)))
 
-    pub back-near : (n : ℕ) → n < N / 2 → natAbs (back n -ℤ at x (b * (N / 2) + n)) ≤ (3 * Q′ + 36) / 64
+    pub back-near : (n : ℕ) → n < N / 2 → natAbs (overlapped N l j r c₁ c₂ n -ℤ at x (b * (N / 2) + n)) ≤ (3 * Q′ + 36) / 64
     back-near n p = rw (← (block-hop b n (brought₂ .exists) p)) (returned-each N t nb Q′ c₁ c₂ near₁ near₂ n p)
 
-    pub back-same : Q b ≤ 9 → Q (suc b) ≤ 9 → routes b ≡ Direct → routes (suc b) ≡ Direct → (n : ℕ) → n < N / 2 → back n ≡ at x (b * (N / 2) + n)
+    pub back-same : Q b ≤ 9 → Q (suc b) ≤ 9 → routes b ≡ Direct → routes (suc b) ≡ Direct → (n : ℕ) → n < N / 2 → overlapped N l j r c₁ c₂ n ≡ at x (b * (N / 2) + n)
     back-same q q′ e f n p =
         let g : Q′ ≤ 9 = change-direct (Q b) (Q (suc b)) (routes b) (routes (suc b)) e f q q′ in
         rw (← (block-hop b n (brought₂ .exists) p)) (returned-same N t nb Q′ c₁ c₂ near₁ near₂ g n p)

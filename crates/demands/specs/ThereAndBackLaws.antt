@@ -2,14 +2,13 @@
 use mathlib.Core.Path.{_≡_, refl, ap, _∙_}
 use mathlib.Core.Logic.{_≢_}
 use mathlib.Core.List.{List, [], _∷_}
-use Prim.Native.Nat.{ℕ, suc, _+_, _*_, _/_, _%_, _^_, _≤_, _<_}
+use Prim.Native.Nat.{ℕ, suc, _+_, _*_, _/_, _%_, _≤_, _<_}
 use native.Mathlib.Omega.{arith}
 use native.Mathlib.Decide.{ℕ-discrete}
 use lib.Dec.{T}
 use lib.ListN.{length, take}
-use lib.IntN.{ℤ, natAbs, _-ℤ_, _+ℤ_}
+use lib.IntN.{ℤ, natAbs, _-ℤ_}
 use Rattle.arithmetic.specs.Lists.{at}
-use Rattle.arithmetic.specs.Rounding.{rnd, clamp}
 use Rattle.cosine.specs.Kernels.{tabled, rising, falling}
 use Rattle.transform.specs.Synthesis.{V′}
 use Rattle.stream.specs.declared.Stream.{Stream}
@@ -23,7 +22,7 @@ use Rattle.demands.specs.Steps.{Offer, Turn, answered, run, after, taken
 use Rattle.demands.specs.Steps.Entry.{first, later}
 use Rattle.demands.specs.StepLaws.{taken-buffer, taken-stream, sound-seven, only-seven}
 use Rattle.demands.specs.RunLaws.{code, answered-code, refused-stream, refused-buffer, taken-yes, taken-no, run-taken, run-refused, after-refused, no-entry, entry-at, entry-taken}
-use Rattle.demands.specs.RecordingLaws.{hop-of, back-near, back-same, near-asked, restored}
+use Rattle.demands.specs.RecordingLaws.{overlapped, hop-of, back-near, back-same, near-asked, restored}
 use Rattle.stream.specs.NextLaws.{Fine, hop-long, hop-at, next-at}
 use Rattle.demands.specs.StreamLaws.{fresh-is, fine-made, fine-sound, fine-four, fine-answered, fine-after, taken-next}
 
@@ -192,39 +191,30 @@ module _ (N : ℕ) (t : T (tabled N)) where
   every-turn (o ∷ offers) s fine i u first = turned s fine o
   every-turn (o ∷ offers) s fine i u (later {i = k} e) = every-turn offers (answered s o .answer .stream) (fine-answered N t s fine o) k u e
 
-  module _ (H : ℕ) (Q : ℕ → ℕ) (routes : ℕ → Route) (x : List ℤ) (rec : Recording N H x) where
-    -- ---- the hops. A stream before the step that brings block j: its tail is what block j - 1 left, and it ends with that block's right joint
+  -- ---- the hops. P b l r c says that c is brought as block b, with joints of the shapes l and r; R b out is what is claimed of hop b as a buffer holds it, where blocks b and b + 1 meet
+  module _ (P : (b l r : ℕ) → List ℤ → Type 0) (R : ℕ → List ℤ → Type 0)
+      (meet : (b l j r : ℕ) (c₁ c₂ out : List ℤ) → P b l j c₁ → P (suc b) j r c₂ → ((n : ℕ) → n < N / 2 → at out n ≡ overlapped N l j r c₁ c₂ n) → R b out) where
+    -- a stream behind the step that brought block b: its tail is what the block left, and it ends with the block's right joint
     record Before (b : ℕ) (s : Stream) : Type 0 where
       c : List ℤ
       l : ℕ
-      brought : Brought N H Q routes x b l (s .shape) c
+      brought : P b l (s .shape) c
       left : (n : ℕ) → n < N / 2 → at (s .tail) n ≡ V′ N (rising l N) (falling (s .shape) N) c (N / 2 + n)
 
     record State (j : ℕ) (s : Stream) : Type 0 where
       fine : Fine N s
       before : (b : ℕ) → j ≡ suc b → Before b s
 
-    -- what the turn u that brings block b + 1 returns
-    record Kept (b : ℕ) (u : Turn) : Type 0 where
-      near : (n : ℕ) → n < N / 2 → natAbs (at (u .output) n -ℤ at x (b * (N / 2) + n)) ≤ (3 * provedChange (Q b) (Q (suc b)) (routes b) (routes (suc b)) + 36) / 64
-      same : Q b ≤ 9 → Q (suc b) ≤ 9 → routes b ≡ Direct → routes (suc b) ≡ Direct → (n : ℕ) → n < N / 2 → at (u .output) n ≡ at x (b * (N / 2) + n)
-
     module _ (s : Stream) (o : Offer) (zero-code : code s o ≡ 0) where
-      kept : (b : ℕ) → State (suc b) s → Brought N H Q routes x (suc b) (o .left) (o .right) (o .brought) → Kept b (answered s o)
+      kept : (b : ℕ) → State (suc b) s → P (suc b) (o .left) (o .right) (o .brought) → R b (answered s o .output)
       kept b st brought =
           let v = st .before b refl in
-          let met : Brought N H Q routes x (suc b) (s .shape) (o .right) (o .brought) = rw (as-ended s o zero-code) at brought in
-          record {
-            near = λ n p. rw (is v n p) (back-near N t H x rec Q routes b (v .l) (s .shape) (o .right) (v .c) (o .brought) (v .brought) met n p);
-            same = λ q q′ e f n p. rw (is v n p) (back-same N t H x rec Q routes b (v .l) (s .shape) (o .right) (v .c) (o .brought) (v .brought) met q q′ e f n p);
-          }
+          meet b (v .l) (s .shape) (o .right) (v .c) (o .brought) (answered s o .output) (v .brought) (rw (as-ended s o zero-code) at brought) (is v)
         where
-          is : (v : Before b s) (n : ℕ) → n < N / 2 →
-              at (answered s o .output) n ≡
-              clamp (rnd (V′ N (rising (v .l) N) (falling (s .shape) N) (v .c) (N / 2 + n) +ℤ V′ N (rising (s .shape) N) (falling (o .right) N) (o .brought) n) (N * 2 ^ 30))
+          is : (v : Before b s) (n : ℕ) → n < N / 2 → at (answered s o .output) n ≡ overlapped N (v .l) (s .shape) (o .right) (v .c) (o .brought) n
           is v n p = rw (taken-output s o zero-code, hop-at N s (st .fine .n-is) (o .left) (o .right) (o .brought) n p, v .left n p, as-ended s o zero-code)
 
-      state-next : (j : ℕ) → State j s → Brought N H Q routes x j (o .left) (o .right) (o .brought) → State (suc j) (answered s o .answer .stream)
+      state-next : (j : ℕ) → State j s → P j (o .left) (o .right) (o .brought) → State (suc j) (answered s o .answer .stream)
       state-next j st brought = record {
         fine = fine-answered N t s (st .fine) o;
         before = λ b e. record {
@@ -237,12 +227,12 @@ module _ (N : ℕ) (t : T (tabled N)) where
 
     -- ---- the taken turns of the rest of a list, from block j on
     record Bring (j : ℕ) (us : List Turn) : Type 0 where
-      each : (i : ℕ) (u : Turn) → Entry us i u → Brought N H Q routes x (j + i) (u .offer .left) (u .offer .right) (u .offer .brought)
+      each : (i : ℕ) (u : Turn) → Entry us i u → P (j + i) (u .offer .left) (u .offer .right) (u .offer .brought)
 
     record Keep (j : ℕ) (us : List Turn) : Type 0 where
-      each : (i : ℕ) (u : Turn) → Entry us i u → (b : ℕ) → j + i ≡ suc b → Kept b u
+      each : (i : ℕ) (u : Turn) → Entry us i u → (b : ℕ) → j + i ≡ suc b → R b (u .output)
 
-    bring-first : (j : ℕ) (u : Turn) (us : List Turn) → Bring j (u ∷ us) → Brought N H Q routes x j (u .offer .left) (u .offer .right) (u .offer .brought)
+    bring-first : (j : ℕ) (u : Turn) (us : List Turn) → Bring j (u ∷ us) → P j (u .offer .left) (u .offer .right) (u .offer .brought)
     bring-first j u us br = let e : j + 0 ≡ j = omega arith in rw e at (br .each 0 u first)
 
     bring-later : (j : ℕ) (u : Turn) (us : List Turn) → Bring j (u ∷ us) → Bring (suc j) us
@@ -251,10 +241,10 @@ module _ (N : ℕ) (t : T (tabled N)) where
     keep-none : (j : ℕ) → Keep j []
     keep-none j = record { each = λ i u e. absurd (no-entry e refl) }
 
-    keep-cons : (j : ℕ) (u : Turn) (us : List Turn) → ((b : ℕ) → j ≡ suc b → Kept b u) → Keep (suc j) us → Keep j (u ∷ us)
+    keep-cons : (j : ℕ) (u : Turn) (us : List Turn) → ((b : ℕ) → j ≡ suc b → R b (u .output)) → Keep (suc j) us → Keep j (u ∷ us)
     keep-cons j u us k ks = record { each = go }
       where
-        go : (i : ℕ) (v : Turn) → Entry (u ∷ us) i v → (b : ℕ) → j + i ≡ suc b → Kept b v
+        go : (i : ℕ) (v : Turn) → Entry (u ∷ us) i v → (b : ℕ) → j + i ≡ suc b → R b (v .output)
         go i v first b e = k b (omega arith)
         go i v (later {i = l} h) b e = ks .each l v h b (omega arith)
 
@@ -269,7 +259,7 @@ module _ (N : ℕ) (t : T (tabled N)) where
             let s′ = answered s o .answer .stream in
             let us = taken (run s′ offers) in
             let br′ : Bring j (answered s o ∷ us) = rw (run-taken s o offers z) at br in
-            let now : Brought N H Q routes x j (o .left) (o .right) (o .brought) = unfold answered in bring-first j (answered s o) us br′ in
+            let now : P j (o .left) (o .right) (o .brought) = unfold answered in bring-first j (answered s o) us br′ in
             rw (run-taken s o offers z)
             (keep-cons j (answered s o) us (λ b e. kept s o z b (rw e at st) (rw e at now))
             (ih s′ (suc j) (state-next s o z j st now) (bring-later j (answered s o) us br′)))
@@ -277,12 +267,31 @@ module _ (N : ℕ) (t : T (tabled N)) where
     state-fresh : State 0 (fresh N .stream)
     state-fresh = record { fine = fine-made N t; before = λ b e. absurd (omega arith) }
 
-    -- the taken step j brings block j, since j is its number
-    all-hops : (offers : List Offer) → Numbered N H Q routes x (turns N offers) → Keep 0 (taken (turns N offers))
+    -- where each taken step brings the block of its number, the one that is taken under number b + 1 returns hop b: the taken step j brings block j, since j is its number
+    pub every-hop : (offers : List Offer) → ((j : ℕ) (u : Turn) → Entry (taken (turns N offers)) j u → P (u .offer .number) (u .offer .left) (u .offer .right) (u .offer .brought)) →
+        (j : ℕ) (u : Turn) → Entry (taken (turns N offers)) j u → (b : ℕ) → u .offer .number ≡ suc b → R b (u .output)
     unfolding turns
-    all-hops offers numbered =
+    every-hop offers brought j u e b f =
         hops offers (fresh N .stream) 0 state-fresh
-        (record { each = λ i u e. let f : u .offer .number ≡ 0 + i = numbered-by N t offers i u e ∙ omega arith in rw f at (numbered .each i u e) })
+        (record { each = λ i u e. let f : u .offer .number ≡ 0 + i = numbered-by N t offers i u e ∙ omega arith in rw f at (brought i u e) })
+        .each j u e b (omega (arith, f, numbered-by N t offers j u e))
+
+  -- ---- what comes back of hop b where each coefficient is changed by at most its block's Q
+  module _ (H : ℕ) (Q : ℕ → ℕ) (routes : ℕ → Route) (x : List ℤ) (rec : Recording N H x) where
+    record Kept (b : ℕ) (out : List ℤ) : Type 0 where
+      near : (n : ℕ) → n < N / 2 → natAbs (at out n -ℤ at x (b * (N / 2) + n)) ≤ (3 * provedChange (Q b) (Q (suc b)) (routes b) (routes (suc b)) + 36) / 64
+      same : Q b ≤ 9 → Q (suc b) ≤ 9 → routes b ≡ Direct → routes (suc b) ≡ Direct → (n : ℕ) → n < N / 2 → at out n ≡ at x (b * (N / 2) + n)
+
+    all-hops : (offers : List Offer) → Numbered N H Q routes x (turns N offers) →
+        (j : ℕ) (u : Turn) → Entry (taken (turns N offers)) j u → (b : ℕ) → u .offer .number ≡ suc b → Kept b (u .output)
+    all-hops offers numbered = every-hop (Brought N H Q routes x) Kept meet offers (numbered .each)
+      where
+        meet : (b l j r : ℕ) (c₁ c₂ out : List ℤ) → Brought N H Q routes x b l j c₁ → Brought N H Q routes x (suc b) j r c₂ →
+            ((n : ℕ) → n < N / 2 → at out n ≡ overlapped N l j r c₁ c₂ n) → Kept b out
+        meet b l j r c₁ c₂ out brought₁ brought₂ is = record {
+          near = λ n p. rw (is n p) (back-near N t H x rec Q routes b l j r c₁ c₂ brought₁ brought₂ n p);
+          same = λ q q′ e f n p. is n p ∙ back-same N t H x rec Q routes b l j r c₁ c₂ brought₁ brought₂ q q′ e f n p;
+        }
 
 -- what holds of every list, whatever its steps bring
 pub every-list : (N : ℕ) → T (tabled N) → (offers : List Offer) → Answered N (turns N offers) (final N offers)
@@ -315,16 +324,15 @@ every-list N t offers =
 pub there-and-back : (N : ℕ) → T (tabled N) → (H : ℕ) (Q : ℕ → ℕ) (routes : ℕ → Route) (x : List ℤ) → Recording N H x →
     (offers : List Offer) → Numbered N H Q routes x (turns N offers) → Returned N Q routes x (turns N offers) (final N offers)
 there-and-back N t H Q routes x rec offers numbered =
-    let is = numbered-by N t offers in
-    let hop = all-hops N t H Q routes x rec offers numbered .each in
+    let hop = all-hops N t H Q routes x rec offers numbered in
     record {
       answered = every-list N t offers;
-      hop-near = λ j u e b f n p. near-asked (Q b) (Q (suc b)) (routes b) (routes (suc b)) (hop j u e b (omega (arith, f, is j u e)) .near n p);
-      hop-same = λ j u e b f q q′. hop j u e b (omega (arith, f, is j u e)) .same (omega arith) (omega arith);
+      hop-near = λ j u e b f n p. near-asked (Q b) (Q (suc b)) (routes b) (routes (suc b)) (hop j u e b f .near n p);
+      hop-same = λ j u e b f q q′. hop j u e b f .same (omega arith) (omega arith);
     }
 
 -- once all blocks are taken, every sample has returned: sample i, in the hop of the step that was taken under number i / M + 1
-holds-sample : (N : ℕ) → T (tabled N) → (H : ℕ) (offers : List Offer) → length (taken (turns N offers)) ≡ H + 1 → (i : ℕ) → i < H * (N / 2) →
+pub holds-sample : (N : ℕ) → T (tabled N) → (H : ℕ) (offers : List Offer) → length (taken (turns N offers)) ≡ H + 1 → (i : ℕ) → i < H * (N / 2) →
     (u : Turn) × Entry (taken (turns N offers)) (suc (i / (N / 2))) u × (u .offer .number ≡ suc (i / (N / 2)))
 holds-sample N t H offers all i p =
     let (u, e) = entry-at (taken (turns N offers)) (suc (i / (N / 2))) (omega (arith, all, hop-of N t H i p .before)) in
@@ -367,9 +375,8 @@ returned-one N t H Q routes x rec offers numbered = record {
 pub there-and-back-sharper : (N : ℕ) → T (tabled N) → (H : ℕ) (Q : ℕ → ℕ) (routes : ℕ → Route) (x : List ℤ) → Recording N H x →
     (offers : List Offer) → Numbered N H Q routes x (turns N offers) → Sharper N Q routes x (turns N offers)
 there-and-back-sharper N t H Q routes x rec offers numbered =
-    let hop = all-hops N t H Q routes x rec offers numbered .each in
-    let is = numbered-by N t offers in
+    let hop = all-hops N t H Q routes x rec offers numbered in
     record {
-      hop-near = λ j u e b f. hop j u e b (omega (arith, f, is j u e)) .near;
-      hop-same = λ j u e b f. hop j u e b (omega (arith, f, is j u e)) .same;
+      hop-near = λ j u e b f. hop j u e b f .near;
+      hop-same = λ j u e b f. hop j u e b f .same;
     }
