@@ -51,7 +51,7 @@ static int64_t tail[MOST_M];
 
 static uint32_t refused;
 
-/* A call over a batch, and whether it is there and takes length l: a block is refused with 1 where its route, direct or short, does not. */
+/* A call over a batch, and whether it is there and takes length l: a block is refused with 1 where its route, direct, short or double, does not. */
 #define CALL(whose, call, route, ...)                                               \
     static void whose##_##call(size_t n, size_t blocks)                             \
     {                                                                               \
@@ -62,24 +62,28 @@ static uint32_t refused;
         return whose.call && whose.route(lengths[l], 1, padded, coefficients) != 1; \
     }
 
-#define CALLS(whose)                                                                \
-    CALL(whose, direct, direct, padded, coefficients)                               \
-    CALL(whose, by_short_route, by_short_route, padded, coefficients)               \
-    CALL(whose, recording_direct, direct, padded, coefficients)                     \
-    CALL(whose, recording_short, by_short_route, padded, coefficients)              \
-    CALL(whose, direct_short_joints, direct, padded, coefficients)                  \
-    CALL(whose, by_short_route_short_joints, by_short_route, padded, coefficients)  \
-    CALL(whose, step, direct, spectra, sound)                                       \
-    CALL(whose, synthesis, direct, spectra, sound)                                  \
-    CALL(whose, step_short_joints, direct, short_joints, sound)                     \
-    CALL(whose, quantise, direct, table, table_length, spectra, coefficients)       \
-    CALL(whose, dequantise, direct, table, table_length, levels, coefficients)      \
-    CALL(whose, step_levels, direct, table, table_length, levels, sound)            \
-    CALL(whose, largest_share, direct, spectra, restored, movers)                   \
-    CALL(whose, recording_direct_by_frequency, direct, padded, coefficients)        \
-    CALL(whose, recording_short_by_frequency, by_short_route, padded, coefficients) \
-    CALL(whose, synthesis_by_frequency, direct, by_frequency, sound)                \
-    CALL(whose, reordered_by_block, direct, by_frequency, coefficients)             \
+#define CALLS(whose)                                                                  \
+    CALL(whose, direct, direct, padded, coefficients)                                 \
+    CALL(whose, by_short_route, by_short_route, padded, coefficients)                 \
+    CALL(whose, by_double_route, by_double_route, padded, coefficients)               \
+    CALL(whose, recording_direct, direct, padded, coefficients)                       \
+    CALL(whose, recording_short, by_short_route, padded, coefficients)                \
+    CALL(whose, recording_double, by_double_route, padded, coefficients)              \
+    CALL(whose, direct_short_joints, direct, padded, coefficients)                    \
+    CALL(whose, by_short_route_short_joints, by_short_route, padded, coefficients)    \
+    CALL(whose, by_double_route_short_joints, by_double_route, padded, coefficients)  \
+    CALL(whose, step, direct, spectra, sound)                                         \
+    CALL(whose, synthesis, direct, spectra, sound)                                    \
+    CALL(whose, step_short_joints, direct, short_joints, sound)                       \
+    CALL(whose, quantise, direct, table, table_length, spectra, coefficients)         \
+    CALL(whose, dequantise, direct, table, table_length, levels, coefficients)        \
+    CALL(whose, step_levels, direct, table, table_length, levels, sound)              \
+    CALL(whose, largest_share, direct, spectra, restored, movers)                     \
+    CALL(whose, recording_direct_by_frequency, direct, padded, coefficients)          \
+    CALL(whose, recording_short_by_frequency, by_short_route, padded, coefficients)   \
+    CALL(whose, recording_double_by_frequency, by_double_route, padded, coefficients) \
+    CALL(whose, synthesis_by_frequency, direct, by_frequency, sound)                  \
+    CALL(whose, reordered_by_block, direct, by_frequency, coefficients)               \
     CALL(whose, reordered_by_frequency, direct, spectra, coefficients)
 
 CALLS(library)
@@ -134,8 +138,12 @@ CALLS(before)
 
 PLAIN_ANALYSIS(plain_o3_analyse_direct)
 PLAIN_ANALYSIS(plain_o3_analyse_folded)
+PLAIN_ANALYSIS(plain_o3_analyse_short)
+PLAIN_ANALYSIS(plain_o3_analyse_double)
 PLAIN_ANALYSIS(plain_native_analyse_direct)
 PLAIN_ANALYSIS(plain_native_analyse_folded)
+PLAIN_ANALYSIS(plain_native_analyse_short)
+PLAIN_ANALYSIS(plain_native_analyse_double)
 PLAIN_STEP(plain_o3_step_direct)
 PLAIN_STEP(plain_o3_step_folded)
 PLAIN_STEP(plain_native_step_direct)
@@ -152,6 +160,16 @@ PLAIN_LARGEST_SHARE(plain_native_largest_share)
 static int plain_offers(int l)
 {
     return l < LENGTHS;
+}
+
+static int plain_offers_short(int l)
+{
+    return lengths[l] <= 72;
+}
+
+static int plain_offers_double(int l)
+{
+    return lengths[l] == 36 || lengths[l] == 72;
 }
 
 /* Floating point, for scale only: window, transform and, in synthesis, overlap and rounding to samples. */
@@ -275,8 +293,8 @@ static void avtx_synthesis(size_t n, size_t blocks)
 
 /* What a contender's result is held to before it is timed, numbers, sound behind the run-in, or what is named, and how far it may be from it. */
 enum result {
-    COEFFICIENTS, NEAR_COEFFICIENTS, FLOAT_COEFFICIENTS, SHORT_JOINTS, NEAR_SHORT_JOINTS, SOUND, FLOAT_SOUND, LEVELS, RESTORED, RESTORED_SOUND,
-    MOVERS, IN_BANDS, NEAR_IN_BANDS
+    COEFFICIENTS, NEAR_COEFFICIENTS, DOUBLE_COEFFICIENTS, FLOAT_COEFFICIENTS, SHORT_JOINTS, NEAR_SHORT_JOINTS, DOUBLE_SHORT_JOINTS, SOUND, FLOAT_SOUND,
+    LEVELS, RESTORED, RESTORED_SOUND, MOVERS, IN_BANDS, NEAR_IN_BANDS, DOUBLE_IN_BANDS
 };
 
 static const struct {
@@ -287,9 +305,11 @@ static const struct {
 } expected[] = {
     [COEFFICIENTS] = {&spectra, NULL, NULL, 0},
     [NEAR_COEFFICIENTS] = {&spectra, NULL, NULL, 16},
+    [DOUBLE_COEFFICIENTS] = {&spectra, NULL, NULL, 32},
     [FLOAT_COEFFICIENTS] = {&spectra, NULL, NULL, 64},
     [SHORT_JOINTS] = {&short_joints, NULL, NULL, 0},
     [NEAR_SHORT_JOINTS] = {&short_joints, NULL, NULL, 16},
+    [DOUBLE_SHORT_JOINTS] = {&short_joints, NULL, NULL, 32},
     [SOUND] = {NULL, &padded, NULL, 0},
     [FLOAT_SOUND] = {NULL, &padded, NULL, 1},
     [LEVELS] = {&levels, NULL, NULL, 0},
@@ -298,6 +318,7 @@ static const struct {
     [MOVERS] = {NULL, NULL, &expected_movers, 0},
     [IN_BANDS] = {&by_frequency, NULL, NULL, 0},
     [NEAR_IN_BANDS] = {&by_frequency, NULL, NULL, 16},
+    [DOUBLE_IN_BANDS] = {&by_frequency, NULL, NULL, 32},
 };
 
 struct contender {
@@ -313,13 +334,16 @@ struct contender {
 
 static struct contender contenders[] = {
 #define ROW(name, whose, call, result) {name, whose##_##call, whose##_offers_##call, result, 0, {0}, {0}}
-#define ANALYSES(name, whose)                                                               \
-    ROW(name ", direct", whose, direct, COEFFICIENTS),                                      \
-    ROW(name ", short route", whose, by_short_route, NEAR_COEFFICIENTS),                    \
-    ROW(name ", recording, direct", whose, recording_direct, COEFFICIENTS),                 \
-    ROW(name ", recording, short route", whose, recording_short, NEAR_COEFFICIENTS),        \
-    ROW(name ", direct, short joints", whose, direct_short_joints, SHORT_JOINTS),           \
-    ROW(name ", short route, short joints", whose, by_short_route_short_joints, NEAR_SHORT_JOINTS)
+#define ANALYSES(name, whose)                                                                       \
+    ROW(name ", direct", whose, direct, COEFFICIENTS),                                              \
+    ROW(name ", short route", whose, by_short_route, NEAR_COEFFICIENTS),                            \
+    ROW(name ", double route", whose, by_double_route, DOUBLE_COEFFICIENTS),                        \
+    ROW(name ", recording, direct", whose, recording_direct, COEFFICIENTS),                         \
+    ROW(name ", recording, short route", whose, recording_short, NEAR_COEFFICIENTS),                \
+    ROW(name ", recording, double route", whose, recording_double, DOUBLE_COEFFICIENTS),            \
+    ROW(name ", direct, short joints", whose, direct_short_joints, SHORT_JOINTS),                   \
+    ROW(name ", short route, short joints", whose, by_short_route_short_joints, NEAR_SHORT_JOINTS), \
+    ROW(name ", double route, short joints", whose, by_double_route_short_joints, DOUBLE_SHORT_JOINTS)
 #define SYNTHESES(name, whose)                                                              \
     ROW(name ", step", whose, step, SOUND),                                                 \
     ROW(name ", recording, synthesis", whose, synthesis, SOUND),                            \
@@ -330,11 +354,12 @@ static struct contender contenders[] = {
     ROW(name ", step on levels", whose, step_levels, RESTORED_SOUND)
 #define ON_SHARES(name, whose)                                                              \
     ROW(name ", largest share", whose, largest_share, MOVERS)
-#define IN_ORDERS(name, whose)                                                                                        \
-    ROW(name ", recording, direct, by frequency", whose, recording_direct_by_frequency, IN_BANDS),                    \
-    ROW(name ", recording, short route, by frequency", whose, recording_short_by_frequency, NEAR_IN_BANDS),           \
-    ROW(name ", recording, synthesis, by frequency", whose, synthesis_by_frequency, SOUND),                           \
-    ROW(name ", recording, reordered by block", whose, reordered_by_block, COEFFICIENTS),                             \
+#define IN_ORDERS(name, whose)                                                                                  \
+    ROW(name ", recording, direct, by frequency", whose, recording_direct_by_frequency, IN_BANDS),              \
+    ROW(name ", recording, short route, by frequency", whose, recording_short_by_frequency, NEAR_IN_BANDS),     \
+    ROW(name ", recording, double route, by frequency", whose, recording_double_by_frequency, DOUBLE_IN_BANDS), \
+    ROW(name ", recording, synthesis, by frequency", whose, synthesis_by_frequency, SOUND),                     \
+    ROW(name ", recording, reordered by block", whose, reordered_by_block, COEFFICIENTS),                       \
     ROW(name ", recording, reordered by frequency", whose, reordered_by_frequency, IN_BANDS)
 #define PLAIN_ON_LEVELS(variant, options, native)                                                                     \
     {"plain C, quantise, " options, run_##variant##_quantise, plain_offers, LEVELS, native, {0}, {0}},                \
@@ -346,8 +371,12 @@ static struct contender contenders[] = {
 #endif
     {"plain C, direct, -O3", run_plain_o3_analyse_direct, plain_offers, COEFFICIENTS, 0, {0}, {0}},
     {"plain C, folded, -O3", run_plain_o3_analyse_folded, plain_offers, COEFFICIENTS, 0, {0}, {0}},
+    {"plain C, short route, -O3", run_plain_o3_analyse_short, plain_offers_short, NEAR_COEFFICIENTS, 0, {0}, {0}},
+    {"plain C, double route, -O3", run_plain_o3_analyse_double, plain_offers_double, DOUBLE_COEFFICIENTS, 0, {0}, {0}},
     {"plain C, direct, -O3 -march=native", run_plain_native_analyse_direct, plain_offers, COEFFICIENTS, 1, {0}, {0}},
     {"plain C, folded, -O3 -march=native", run_plain_native_analyse_folded, plain_offers, COEFFICIENTS, 1, {0}, {0}},
+    {"plain C, short route, -O3 -march=native", run_plain_native_analyse_short, plain_offers_short, NEAR_COEFFICIENTS, 1, {0}, {0}},
+    {"plain C, double route, -O3 -march=native", run_plain_native_analyse_double, plain_offers_double, DOUBLE_COEFFICIENTS, 1, {0}, {0}},
 #ifdef HAVE_FFTW
     {"FFTW REDFT11 (float)", fftw_analysis, fftw_offers, FLOAT_COEFFICIENTS, 0, {0}, {0}},
 #endif
@@ -604,6 +633,28 @@ static void print_ratios_to_before(void)
 }
 #endif
 
+/* the routes beside plain C and each other, at either shape of joint, and of a recording */
+static void print_ratios_of_analyses(void)
+{
+    print_ratio("library, direct", "plain C, folded, -O3");
+    print_ratio("library, direct", "plain C, folded, -O3 -march=native");
+    print_ratio("library, direct", "plain C, direct, -O3");
+    print_ratio("library, short route", "plain C, short route, -O3");
+    print_ratio("library, short route", "plain C, short route, -O3 -march=native");
+    print_ratio("library, short route", "library, direct");
+    print_ratio("library, double route", "plain C, double route, -O3");
+    print_ratio("library, double route", "plain C, double route, -O3 -march=native");
+    print_ratio("library, double route", "library, direct");
+    print_ratio("library, double route", "library, short route");
+    print_ratio("plain C, double route, -O3", "plain C, short route, -O3");
+    print_ratio("library, direct, short joints", "library, direct");
+    print_ratio("library, short route, short joints", "library, short route");
+    print_ratio("library, double route, short joints", "library, double route");
+    print_ratio("library, recording, direct", "library, direct");
+    print_ratio("library, recording, short route", "library, short route");
+    print_ratio("library, recording, double route", "library, double route");
+}
+
 static void print_ratios(void)
 {
     printf("\n");
@@ -611,14 +662,7 @@ static void print_ratios(void)
 #ifdef BEFORE
     print_ratios_to_before();
 #endif
-    print_ratio("library, direct", "plain C, folded, -O3");
-    print_ratio("library, direct", "plain C, folded, -O3 -march=native");
-    print_ratio("library, direct", "plain C, direct, -O3");
-    print_ratio("library, short route", "library, direct");
-    print_ratio("library, direct, short joints", "library, direct");
-    print_ratio("library, short route, short joints", "library, short route");
-    print_ratio("library, recording, direct", "library, direct");
-    print_ratio("library, recording, short route", "library, short route");
+    print_ratios_of_analyses();
     print_ratio("library, step", "plain C, step, folded, -O3");
     print_ratio("library, step", "plain C, step, folded, -O3 -march=native");
     print_ratio("library, step", "plain C, step, direct, -O3");
@@ -647,8 +691,8 @@ static void print_ratios(void)
  * so that by frequency the coefficients of a block compete for few places of a cache: the size before it shows them where they do not. */
 static const size_t hops[] = {1, 4, 16, 64, 256, 1024, 4000, LONGEST};
 static const char *const kinds[] = {
-    "direct", "direct, by frequency", "short route", "short route, by frequency", "synthesis", "synthesis, by frequency",
-    "reordered by block", "reordered by frequency",
+    "direct", "direct, by frequency", "short route", "short route, by frequency", "double route", "double route, by frequency",
+    "synthesis", "synthesis, by frequency", "reordered by block", "reordered by frequency",
 };
 enum { SIZES = sizeof hops / sizeof hops[0], KINDS = sizeof kinds / sizeof kinds[0] };
 

@@ -65,6 +65,8 @@ ANALYSIS(direct, dapplescree_analyse_direct, 0)
 ANALYSIS(direct_short_joints, dapplescree_analyse_direct, 1)
 ANALYSIS(by_short_route, dapplescree_analyse_short, 0)
 ANALYSIS(by_short_route_short_joints, dapplescree_analyse_short, 1)
+ANALYSIS(by_double_route, dapplescree_analyse_double, 0)
+ANALYSIS(by_double_route_short_joints, dapplescree_analyse_double, 1)
 STEP(step, 0)
 STEP(step_short_joints, 1)
 LEVELS(quantise, dapplescree_quantise)
@@ -92,6 +94,8 @@ RECORDING(recording_direct, dapplescree_analyse_recording_direct, BY_BLOCK)
 RECORDING(recording_direct_by_frequency, dapplescree_analyse_recording_direct, BY_FREQUENCY)
 RECORDING(recording_short, dapplescree_analyse_recording_short, BY_BLOCK)
 RECORDING(recording_short_by_frequency, dapplescree_analyse_recording_short, BY_FREQUENCY)
+RECORDING(recording_double, dapplescree_analyse_recording_double, BY_BLOCK)
+RECORDING(recording_double_by_frequency, dapplescree_analyse_recording_double, BY_FREQUENCY)
 SYNTHESIS(synthesis, BY_BLOCK)
 SYNTHESIS(synthesis_by_frequency, BY_FREQUENCY)
 REORDERED(reordered_by_block, BY_BLOCK)
@@ -100,5 +104,5 @@ REORDERED(reordered_by_frequency, BY_FREQUENCY)
 const struct library library = {
     direct, by_short_route, recording_direct, recording_short, step, synthesis, direct_short_joints, by_short_route_short_joints, step_short_joints,
     quantise, dequantise, step_levels, largest_share, recording_direct_by_frequency, recording_short_by_frequency, synthesis_by_frequency,
-    reordered_by_block, reordered_by_frequency,
+    reordered_by_block, reordered_by_frequency, by_double_route, by_double_route_short_joints, recording_double, recording_double_by_frequency,
 };

@@ -31,6 +31,11 @@ struct library {
     /* n, blocks, a recording's coefficients in the other order, and in this one */
     uint32_t (*reordered_by_block)(size_t, size_t, const int32_t *, int32_t *);
     uint32_t (*reordered_by_frequency)(size_t, size_t, const int32_t *, int32_t *);
+    /* by the double route: n, blocks, a padded recording of blocks - 1 hops, its blocks' coefficients */
+    uint32_t (*by_double_route)(size_t, size_t, const int16_t *, int32_t *);
+    uint32_t (*by_double_route_short_joints)(size_t, size_t, const int16_t *, int32_t *);
+    uint32_t (*recording_double)(size_t, size_t, const int16_t *, int32_t *);
+    uint32_t (*recording_double_by_frequency)(size_t, size_t, const int16_t *, int32_t *);
 };
 
 extern const struct library library;

@@ -1,4 +1,5 @@
-/* Plain C of the whole-number definitions of documents 01 and 02: direct, N × M sums, and folded by equation (41) of source 003. */
+/* Plain C of the whole-number definitions of documents 01 and 02: direct, N × M sums, and folded by equation (41) of source 003; the short route and
+ * the double route, with the sums of their parts folded too. */
 #include "lengths.h"
 #include "plain.h"
 #include <math.h>
@@ -22,6 +23,17 @@ struct tables {
     static int32_t windows_##n[2 * n], kernel_##n[n * n / 2], turned_##n[n * n / 2], folded_##n[n * n / 4]; \
     static const struct tables tables_##n = {windows_##n, kernel_##n, turned_##n, folded_##n};
 EACH_LENGTH(TABLES, )
+
+/* For each length that is split, what stands beside e and f in rB and, with its sign, in rC, and the folded kernel of its three parts. */
+struct split {
+    int32_t *eb, *fb, *ec, *fc, *folded;
+};
+
+#define EACH_SPLIT(DO) DO(12) DO(24) DO(36) DO(72)
+#define SPLIT_TABLES(n)                                                                                     \
+    static int32_t eb_##n[n / 3], fb_##n[n / 3], ec_##n[n / 3], fc_##n[n / 3], parts_##n[n * n / 36];       \
+    static const struct split split_##n = {eb_##n, fb_##n, ec_##n, fc_##n, parts_##n};
+EACH_SPLIT(SPLIT_TABLES)
 
 static int32_t cosine(long t)
 {
@@ -50,10 +62,28 @@ static void fill(const struct tables *t, long n)
             t->folded[j * m + k] = cosine(d * (2 * j + 1) * (2 * k + 1));
 }
 
+static void fill_split(const struct split *t, long n)
+{
+    long d = 216 / n, sixth = n / 6;
+    for (long i = 0; i < n / 3; i++) {
+        long s = 2 * d * (2 * i + 1);
+        int sign = (i + n / 12) % 2 == 0 ? -1 : 1;
+        t->eb[i] = cosine(216 - s);
+        t->fb[i] = -(cosine(s - 72) + cosine(s + 72));
+        t->ec[i] = sign * cosine(s);
+        t->fc[i] = sign * (cosine(144 - s) + cosine(288 - s));
+    }
+    for (long j = 0; j < sixth; j++)
+        for (long k = 0; k < sixth; k++)
+            t->folded[j * sixth + k] = cosine(3 * d * (2 * j + 1) * (2 * k + 1));
+}
+
 void PLAIN(init)(void)
 {
 #define FILL(n, ...) fill(&tables_##n, n);
     EACH_LENGTH(FILL, )
+#define FILL_SPLIT(n) fill_split(&split_##n, n);
+    EACH_SPLIT(FILL_SPLIT)
 }
 
 /* rnd(a / 2^k), an exact half going away from zero: a right shift of a negative number is arithmetic in gcc. */
@@ -120,16 +150,90 @@ INLINE void analyse_direct(const struct tables *t, size_t n, uint32_t left, uint
     spectrum(t->kernel, n, n / 2, y, out);
 }
 
+INLINE void fold(size_t m, const int32_t *y, int32_t *z)
+{
+    for (size_t j = 0; j < m / 2; j++)
+        z[j] = -y[3 * m / 2 - 1 - j] - y[3 * m / 2 + j];
+    for (size_t j = m / 2; j < m; j++)
+        z[j] = y[j - m / 2] - y[3 * m / 2 - 1 - j];
+}
+
 INLINE void analyse_folded(const struct tables *t, size_t n, uint32_t left, uint32_t right, const int16_t *x, int32_t *out)
 {
     size_t m = n / 2;
     int32_t y[MOST_N], z[MOST_M];
     windowed(t, n, left, right, x, y);
-    for (size_t j = 0; j < m / 2; j++)
-        z[j] = -y[3 * m / 2 - 1 - j] - y[3 * m / 2 + j];
-    for (size_t j = m / 2; j < m; j++)
-        z[j] = y[j - m / 2] - y[3 * m / 2 - 1 - j];
+    fold(m, y, z);
     spectrum(t->folded, m, m, z, out);
+}
+
+/* the longest length that is split, and the most inputs and the most sums of a part */
+enum { MOST_SPLIT = 72, MOST_PART = MOST_SPLIT / 3, MOST_SUMS = MOST_PART / 2 };
+
+/* The three parts of n inputs: a - b + c, rB, and rC with its sign, which its cosines have. */
+INLINE void split(const struct split *t, size_t n, const int32_t *y, int32_t parts[3][MOST_PART])
+{
+    size_t third = n / 3;
+    for (size_t i = 0; i < third; i++) {
+        int32_t a = y[third - 1 - i], b = y[2 * third - 1 - i], c = y[n - 1 - i], e = 2 * c - a + b, f = a + b;
+        parts[0][i] = a - b + c;
+        parts[1][i] = (int32_t)rnd((int64_t)e * t->eb[i] + (int64_t)f * t->fb[i], 26);
+        parts[2][i] = (int32_t)rnd((int64_t)e * t->ec[i] + (int64_t)f * t->fc[i], 26);
+    }
+}
+
+/* The sums A, B and G of the parts of n inputs. */
+INLINE void part_sums(const struct split *t, size_t n, int32_t parts[3][MOST_PART], int64_t s[3][MOST_SUMS])
+{
+    int32_t z[MOST_SUMS];
+    for (size_t part = 0; part < 3; part++) {
+        fold(n / 6, parts[part], z);
+        sums(t->folded, n / 6, n / 6, z, s[part]);
+    }
+}
+
+/* B(k) + D(k), 2 × A(k) and B(k) - D(k) of n inputs, at 3k, 3k + 1 and 3k + 2. */
+INLINE void join(size_t n, int64_t s[3][MOST_SUMS], int64_t *out)
+{
+    for (size_t k = 0; k < n / 6; k++) {
+        int64_t b = s[1][k], d = s[2][n / 6 - 1 - k];
+        out[3 * k] = b + d;
+        out[3 * k + 1] = 2 * s[0][k];
+        out[3 * k + 2] = b - d;
+    }
+}
+
+INLINE void analyse_short(const struct tables *t, const struct split *by, size_t n, uint32_t left, uint32_t right, const int16_t *x, int32_t *out)
+{
+    int32_t y[MOST_SPLIT], parts[3][MOST_PART];
+    int64_t s[3][MOST_SUMS];
+    windowed(t, n, left, right, x, y);
+    split(by, n, y, parts);
+    part_sums(by, n, parts, s);
+    for (size_t k = 0; k < n / 6; k++) {
+        int64_t b = s[1][k], d = s[2][n / 6 - 1 - k];
+        out[3 * k] = (int32_t)rnd(b + d, 29);
+        out[3 * k + 1] = (int32_t)rnd(s[0][k], 28);
+        out[3 * k + 2] = (int32_t)rnd(b - d, 29);
+    }
+}
+
+/* two splits deep, with one rounding at the end */
+INLINE void analyse_double(const struct tables *t, const struct split *by, const struct split *again, size_t n, uint32_t left, uint32_t right,
+                           const int16_t *x, int32_t *out)
+{
+    int32_t y[MOST_SPLIT], parts[3][MOST_PART], ends[3][MOST_PART];
+    int64_t ends_sums[3][MOST_SUMS], s[3][MOST_SUMS], joined[MOST_SPLIT / 2];
+    windowed(t, n, left, right, x, y);
+    split(by, n, y, parts);
+    for (size_t part = 0; part < 3; part++) {
+        split(again, n / 3, parts[part], ends);
+        part_sums(again, n / 3, ends, ends_sums);
+        join(n / 3, ends_sums, s[part]);
+    }
+    join(n, s, joined);
+    for (size_t k = 0; k < n / 2; k++)
+        out[k] = (int32_t)rnd(joined[k], 30);
 }
 
 /* The hop and the new tail from the n sums over k of X(k) × K(n,k). */
@@ -180,6 +284,22 @@ void PLAIN(analyse_direct)(size_t n, uint32_t left, uint32_t right, const int16_
 void PLAIN(analyse_folded)(size_t n, uint32_t left, uint32_t right, const int16_t *x, int32_t *out)
 {
     BY_LENGTH(analyse_folded, left, right, x, out)
+}
+
+void PLAIN(analyse_short)(size_t n, uint32_t left, uint32_t right, const int16_t *x, int32_t *out)
+{
+#define SPLIT_CASE(n) case n: analyse_short(&tables_##n, &split_##n, n, left, right, x, out); break;
+    switch (n) {
+        EACH_SPLIT(SPLIT_CASE)
+    }
+}
+
+void PLAIN(analyse_double)(size_t n, uint32_t left, uint32_t right, const int16_t *x, int32_t *out)
+{
+    switch (n) {
+    case 36: analyse_double(&tables_36, &split_36, &split_12, 36, left, right, x, out); break;
+    case 72: analyse_double(&tables_72, &split_72, &split_24, 72, left, right, x, out); break;
+    }
 }
 
 void PLAIN(step_direct)(size_t n, uint32_t left, uint32_t right, int64_t *tail, const int32_t *coefficients, int16_t *hop)

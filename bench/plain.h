@@ -10,6 +10,8 @@
     void V##_init(void);                                                                                                        \
     void V##_analyse_direct(size_t n, uint32_t left, uint32_t right, const int16_t *x, int32_t *out);                           \
     void V##_analyse_folded(size_t n, uint32_t left, uint32_t right, const int16_t *x, int32_t *out);                           \
+    void V##_analyse_short(size_t n, uint32_t left, uint32_t right, const int16_t *x, int32_t *out);                            \
+    void V##_analyse_double(size_t n, uint32_t left, uint32_t right, const int16_t *x, int32_t *out);                           \
     void V##_step_direct(size_t n, uint32_t left, uint32_t right, int64_t *tail, const int32_t *coefficients, int16_t *hop);    \
     void V##_step_folded(size_t n, uint32_t left, uint32_t right, int64_t *tail, const int32_t *coefficients, int16_t *hop);    \
     uint32_t V##_quantise(size_t n, const uint8_t *table, size_t table_length, const int32_t *coefficients, int32_t *levels);   \

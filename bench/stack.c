@@ -43,6 +43,11 @@ static uint32_t by_short_route(void)
     return dapplescree_analyse_short(n, left, right, samples, n, coefficients, m);
 }
 
+static uint32_t by_double_route(void)
+{
+    return dapplescree_analyse_double(n, left, right, samples, n, coefficients, m);
+}
+
 static uint32_t fresh(void)
 {
     return dapplescree_stream_fresh(n, state, DAPPLESCREE_STATE);
@@ -69,6 +74,11 @@ static uint32_t recording_direct(void)
 static uint32_t recording_short(void)
 {
     return dapplescree_analyse_recording_short(n, HOPS, order, samples, HOPS * m, coefficients, BLOCKS * m);
+}
+
+static uint32_t recording_double(void)
+{
+    return dapplescree_analyse_recording_double(n, HOPS, order, samples, HOPS * m, coefficients, BLOCKS * m);
 }
 
 static uint32_t synthesis(void)
@@ -122,11 +132,13 @@ static const struct call {
 } calls[] = {
     {"direct", direct, 0},
     {"short route", by_short_route, 0},
+    {"double route", by_double_route, 0},
     {"fresh", fresh, 0},
     {"step", step, 0},
 #define IN_ORDERS(name, run) {name, run, 0}, {name ", by frequency", run, 1}
     IN_ORDERS("recording, direct", recording_direct),
     IN_ORDERS("recording, short route", recording_short),
+    IN_ORDERS("recording, double route", recording_double),
     IN_ORDERS("recording, synthesis", synthesis),
     IN_ORDERS("page", printed),
     {"reorder to by block", reorder, 0},

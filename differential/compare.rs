@@ -5,7 +5,7 @@ mod steps;
 
 use crate::inputs::*;
 use crate::library;
-use crate::reference::{offered, page_length, shaped, tail_limit, Bank, Recording, Route, Shapes};
+use crate::reference::{offered, page_length, shaped, tail_limit, units, Bank, Recording, Route, Shapes};
 use crate::reference::{COEFFICIENT_LIMIT, EXPECTED, HOPS, LENGTHS, LONG, SHAPE, STATE, STORAGE, TAIL};
 use std::fmt::Debug;
 
@@ -102,8 +102,7 @@ impl Trip<'_> {
     fn near(&self, h: usize, hop: &[i16], how: &str) {
         let Trip { n, x, joints, q, routes, brought } = self;
         let m = n / 2;
-        let short = routes[h] == Route::Short || routes[h + 1] == Route::Short;
-        let bound = q + if short { 16 } else { 0 } + 8;
+        let bound = q + i64::from(units(routes[h]).max(units(routes[h + 1]))) + 8;
         for i in 0..m {
             let distance = (i64::from(hop[i]) - i64::from(x[h * m + i])).abs();
             if 16 * distance > bound {
@@ -313,10 +312,13 @@ impl Compare {
 
     fn shaped_blocks(&mut self, n: usize, shapes: Shapes) {
         for x in special_blocks(&self.bank, n, shapes) {
-            let [(_, direct), (code, short)] = ROUTES.map(|route| self.analyse(route, n, shapes, &x, n / 2));
-            // the short route keeps its distance at every shape
-            let apart = |k: usize| direct[k].abs_diff(short[k]);
-            assert!(code != 0 || (0..n / 2).all(|k| apart(k) <= if k % 3 == 1 { 0 } else { 16 }));
+            let answers = ROUTES.map(|route| (route, self.analyse(route, n, shapes, &x, n / 2)));
+            let (_, (_, direct)) = &answers[0];
+            // each route keeps its distance at every shape
+            for (route, (code, own)) in &answers {
+                let most = |k: usize| if *route == Route::Short && k % 3 == 1 { 0 } else { units(*route) };
+                assert!(*code != 0 || (0..n / 2).all(|k| direct[k].abs_diff(own[k]) <= most(k)));
+            }
         }
         for route in routes_of(n) {
             for x in half_blocks(&self.bank, &mut self.random, route, n, shapes) {
@@ -329,7 +331,13 @@ impl Compare {
         }
         if offered(Route::Short, n) {
             for x in split_half_blocks(&self.bank, &mut self.random, n, shapes) {
-                self.turned(Route::Short, n, shapes, &x);
+                // by each route that splits
+                routes_of(n).into_iter().skip(1).for_each(|route| self.turned(route, n, shapes, &x));
+            }
+        }
+        if offered(Route::Double, n) {
+            for x in second_half_blocks(&self.bank, &mut self.random, n, shapes) {
+                self.turned(Route::Double, n, shapes, &x);
             }
         }
     }

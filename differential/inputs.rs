@@ -3,7 +3,7 @@ use crate::reference::{offered, tail_limit, Bank, Recording, Route, Shapes};
 use crate::reference::{BY_BLOCK, BY_FREQUENCY, COEFFICIENT_LIMIT, EXPECTED, LONG, SHAPE, SHORT, STATE, STORAGE, TAIL};
 use std::collections::HashMap;
 
-pub const ROUTES: [Route; 2] = [Route::Direct, Route::Short];
+pub const ROUTES: [Route; 3] = [Route::Direct, Route::Short, Route::Double];
 
 /// The routes that are offered at length n.
 pub fn routes_of(n: usize) -> Vec<Route> {
@@ -122,7 +122,7 @@ pub fn special_blocks(bank: &Bank, n: usize, shapes: Shapes) -> Vec<Vec<i16>> {
     blocks
 }
 
-/// The three places of a block that the short route takes together.
+/// The three places of n inputs that a split takes together.
 fn group(n: usize, i: usize) -> [usize; 3] {
     [n / 3 - 1 - i, 2 * n / 3 - 1 - i, n - 1 - i]
 }
@@ -145,6 +145,7 @@ pub fn half_blocks(bank: &Bank, random: &mut Random, route: Route, n: usize, sha
         };
         (0..20_000).map(|_| one()).collect()
     };
+    // by the double route they are in two groups of its second split, too
     let lists = [list(0), list(n / 3 - 1)];
     let sums = lists.each_ref().map(|list| list.iter().map(|x| bank.sums(route, n, shapes, x)).collect::<Vec<_>>());
     let mut blocks = Vec::new();
@@ -157,33 +158,47 @@ pub fn half_blocks(bank: &Bank, random: &mut Random, route: Route, n: usize, sha
     blocks
 }
 
-/// Blocks of which some rB or rC is rounded from an exact half, with other samples about it, so that it shows.
-pub fn split_half_blocks(bank: &Bank, random: &mut Random, n: usize, shapes: Shapes) -> Vec<Vec<i16>> {
-    let mut blocks = Vec::new();
-    for i in 0..n / 3 {
-        let [first, second, _] = group(n, i);
-        let mut list = |place: usize| -> Vec<Vec<i16>> {
-            let mut one = || {
-                let mut x = vec![0; n];
-                x[place] = random.bits() as i16;
-                x
-            };
-            (0..12_000).map(|_| one()).collect()
+/// Blocks of which one of the sums that `tops` gives is rounded by 2^26 from an exact half. They depend on the samples at these places alone, of which
+/// the first two are searched for pairs that meet, and the rest are 0; other samples stand about them, so that it shows.
+fn rounded_halves<const SUMS: usize>(random: &mut Random, n: usize, places: &[usize], tops: impl Fn(&[i16]) -> [i128; SUMS]) -> Vec<Vec<i16>> {
+    let mut list = |place: usize| -> Vec<Vec<i16>> {
+        let mut one = || {
+            let mut x = vec![0; n];
+            x[place] = random.bits() as i16;
+            x
         };
-        let lists = [list(first), list(second)];
-        let tops = lists.each_ref().map(|list| list.iter().map(|x| bank.split_sums(n, shapes, x, i)).collect::<Vec<_>>());
-        for which in 0..2 {
-            let column = |s: &[[i128; 2]]| s.iter().map(|row| row[which]).collect::<Vec<_>>();
-            for (p, q) in half_pairs(&column(&tops[0]), &column(&tops[1]), 1 << 26) {
-                for _ in 0..8 {
-                    let mut x: Vec<i16> = (0..n).map(|_| random.between(-200, 200) as i16).collect();
-                    group(n, i).into_iter().for_each(|place| x[place] = lists[0][p][place] + lists[1][q][place]);
-                    blocks.push(x);
-                }
+        (0..12_000).map(|_| one()).collect()
+    };
+    let lists = [list(places[0]), list(places[1])];
+    let sums = lists.each_ref().map(|list| list.iter().map(|x| tops(x)).collect::<Vec<_>>());
+    let mut blocks = Vec::new();
+    for which in 0..SUMS {
+        let column = |s: &[[i128; SUMS]]| s.iter().map(|row| row[which]).collect::<Vec<_>>();
+        for (p, q) in half_pairs(&column(&sums[0]), &column(&sums[1]), 1 << 26) {
+            for _ in 0..8 {
+                let mut x: Vec<i16> = (0..n).map(|_| random.between(-200, 200) as i16).collect();
+                places.iter().for_each(|&place| x[place] = lists[0][p][place] + lists[1][q][place]);
+                blocks.push(x);
             }
         }
     }
     blocks
+}
+
+/// Blocks of which some rB or rC is rounded from an exact half.
+pub fn split_half_blocks(bank: &Bank, random: &mut Random, n: usize, shapes: Shapes) -> Vec<Vec<i16>> {
+    let at = |i: usize| rounded_halves(random, n, &group(n, i), |x| bank.split_sums(n, shapes, x, i));
+    (0..n / 3).flat_map(at).collect()
+}
+
+/// The same of the splits of the three parts. A group of theirs has nine samples, three groups of the block, and those that are searched lie in two.
+pub fn second_half_blocks(bank: &Bank, random: &mut Random, n: usize, shapes: Shapes) -> Vec<Vec<i16>> {
+    let at = |i: usize| {
+        let [first, second, third] = group(n / 3, i).map(|place| group(n, place));
+        let places = [first[0], second[1], first[1], first[2], second[0], second[2], third[0], third[1], third[2]];
+        rounded_halves(random, n, &places, |x| bank.second_split_sums(n, shapes, x, i))
+    };
+    (0..n / 9).flat_map(at).collect()
 }
 
 /// Samples of one kind: loudest, quiet, random, an impulse, or a mixture.

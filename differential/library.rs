@@ -4,6 +4,7 @@ use crate::reference::{Changes, Recording, Route, Shapes};
 extern "C" {
     fn dapplescree_analyse_direct(n: usize, left: u32, right: u32, x: *const i16, x_length: usize, out: *mut i32, out_length: usize) -> u32;
     fn dapplescree_analyse_short(n: usize, left: u32, right: u32, x: *const i16, x_length: usize, out: *mut i32, out_length: usize) -> u32;
+    fn dapplescree_analyse_double(n: usize, left: u32, right: u32, x: *const i16, x_length: usize, out: *mut i32, out_length: usize) -> u32;
     fn dapplescree_stream_fresh(n: usize, state: *mut i64, state_length: usize) -> u32;
     fn dapplescree_stream_step(
         state: *mut i64,
@@ -26,6 +27,15 @@ extern "C" {
         coefficients_length: usize,
     ) -> u32;
     fn dapplescree_analyse_recording_short(
+        n: usize,
+        hops: usize,
+        order: u32,
+        samples: *const i16,
+        samples_length: usize,
+        coefficients: *mut i32,
+        coefficients_length: usize,
+    ) -> u32;
+    fn dapplescree_analyse_recording_double(
         n: usize,
         hops: usize,
         order: u32,
@@ -129,6 +139,7 @@ pub fn analyse(route: Route, n: usize, (left, right): Shapes, x: &[i16], out: &m
     let call = match route {
         Route::Direct => dapplescree_analyse_direct,
         Route::Short => dapplescree_analyse_short,
+        Route::Double => dapplescree_analyse_double,
     };
     unsafe { call(n, left, right, x.as_ptr(), x.len(), out.as_mut_ptr(), out.len()) }
 }
@@ -146,6 +157,7 @@ pub fn analyse_recording(route: Route, Recording { n, hops, order }: Recording, 
     let call = match route {
         Route::Direct => dapplescree_analyse_recording_direct,
         Route::Short => dapplescree_analyse_recording_short,
+        Route::Double => dapplescree_analyse_recording_double,
     };
     unsafe { call(n, hops, order, x.as_ptr(), x.len(), out.as_mut_ptr(), out.len()) }
 }

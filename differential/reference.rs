@@ -1,4 +1,4 @@
-//! Document 01, with P1, P2 and P4 to P10 of document 02, written out anew: exact series, naive sums, rounding by size. It shares no table with any other file.
+//! Document 01, with P1, P2, P4 to P10 and P12 of document 02, written out anew: exact series, naive sums, rounding by size. It shares no table with any other file.
 
 /// A natural number of any size, in base 2^64, lowest digit first.
 #[derive(Clone)]
@@ -99,8 +99,9 @@ fn series(t: u64) -> i128 {
 }
 
 pub const LENGTHS: [usize; 6] = [12, 24, 36, 72, 108, 216];
-/// Those at which the short route is offered.
+/// Those at which the short route is offered, and those of the double route.
 pub const SHORT_LENGTHS: [usize; 4] = [12, 24, 36, 72];
+pub const DOUBLE_LENGTHS: [usize; 2] = [36, 72];
 pub const STORAGE: usize = 108;
 /// A state: N, the expected number, the expected shape, and from its place TAIL on the tail's storage.
 pub const EXPECTED: usize = 1;
@@ -115,6 +116,7 @@ pub const LARGEST_STEP: i64 = 65_536;
 pub enum Route {
     Direct,
     Short,
+    Double,
 }
 
 /// The shapes of a block's left joint and of its right one.
@@ -193,6 +195,16 @@ pub fn offered(route: Route, n: usize) -> bool {
     match route {
         Route::Direct => tabled(n),
         Route::Short => SHORT_LENGTHS.contains(&n),
+        Route::Double => DOUBLE_LENGTHS.contains(&n),
+    }
+}
+
+/// How far a coefficient by this route may lie from the defined one.
+pub fn units(route: Route) -> u32 {
+    match route {
+        Route::Direct => 0,
+        Route::Short => 16,
+        Route::Double => 32,
     }
 }
 
@@ -271,7 +283,7 @@ impl Bank {
         (0..n / 2).map(|k| (s(k), 1 << 28)).collect()
     }
 
-    /// a - b + c, and what is divided by 2^26 to rB(i) and rC(i).
+    /// Of n inputs, a - b + c, and what is divided by 2^26 to rB(i) and rC(i).
     fn split(&self, n: usize, y: &[i128], i: usize) -> (i128, i128, i128) {
         let third = n / 3;
         let (a, b, c) = (y[third - 1 - i], y[2 * third - 1 - i], y[n - 1 - i]);
@@ -282,19 +294,23 @@ impl Bank {
         (a - b + c, top_b, top_c)
     }
 
+    /// The three parts of n/3 inputs into which n inputs are split: a - b + c, rB, and rC with its sign changed where i + n/12 is even.
+    fn parts(&self, n: usize, y: &[i128]) -> [Vec<i128>; 3] {
+        let mut parts = [Vec::new(), Vec::new(), Vec::new()];
+        for i in 0..n / 3 {
+            let (plain, top_b, top_c) = self.split(n, y, i);
+            let sign = if (i + n / 12) % 2 == 0 { -1 } else { 1 };
+            parts[0].push(plain);
+            parts[1].push(rnd(top_b, 1 << 26));
+            parts[2].push(sign * rnd(top_c, 1 << 26));
+        }
+        parts
+    }
+
     /// A(k), B(k) + D(k) and B(k) - D(k) at their places, and what each is divided by.
     fn short(&self, n: usize, y: &[i128]) -> Vec<(i128, i128)> {
         let (third, sixth) = (n / 3, n / 6);
-        let mut plain = Vec::new();
-        let mut r_b = Vec::new();
-        let mut r_c = Vec::new();
-        for i in 0..third {
-            let (part, top_b, top_c) = self.split(n, y, i);
-            plain.push(part);
-            r_b.push(rnd(top_b, 1 << 26));
-            let sign = if (i + n / 12) % 2 == 0 { -1 } else { 1 };
-            r_c.push(sign * rnd(top_c, 1 << 26));
-        }
+        let [plain, r_b, r_c] = self.parts(n, y);
         let sum = |r: &[i128], k: usize| (0..third).filter(|&i| r[i] != 0).map(|i| self.l(n, i, k) * r[i]).sum::<i128>();
         let mut x = Vec::new();
         for k in 0..sixth {
@@ -304,12 +320,30 @@ impl Bank {
         x
     }
 
+    /// What comes out of n inputs, twice for each split: while n divides by 12 they are split, and at 3k, 3k + 1 and 3k + 2 stand B(k) + D(k), 2 A(k)
+    /// and B(k) - D(k) of what comes out of the parts. At the end S(k) does.
+    fn scaled(&self, n: usize, y: &[i128]) -> Vec<i128> {
+        if n % 12 != 0 {
+            return self.direct(n, y).into_iter().map(|(s, _)| s).collect();
+        }
+        let [a, b, g] = self.parts(n, y).map(|part| self.scaled(n / 3, &part));
+        let mut out = vec![0; n / 2];
+        for k in 0..n / 6 {
+            let d = g[n / 6 - 1 - k];
+            out[3 * k] = b[k] + d;
+            out[3 * k + 1] = 2 * a[k];
+            out[3 * k + 2] = b[k] - d;
+        }
+        out
+    }
+
     /// For each coefficient of a block of n samples, the sum and the power of two whose quotient is rounded to it.
     pub fn sums(&self, route: Route, n: usize, shapes: Shapes, x: &[i16]) -> Vec<(i128, i128)> {
         let y = self.windowed(n, shapes, x);
         match route {
             Route::Direct => self.direct(n, &y),
             Route::Short => self.short(n, &y),
+            Route::Double => self.scaled(n, &y).into_iter().map(|z| (z, 1 << 30)).collect(),
         }
     }
 
@@ -318,6 +352,13 @@ impl Bank {
     pub fn split_sums(&self, n: usize, shapes: Shapes, x: &[i16], i: usize) -> [i128; 2] {
         let (_, top_b, top_c) = self.split(n, &self.windowed(n, shapes, x), i);
         [top_b, top_c]
+    }
+
+    /// The same of the splits of the three parts of n/3 inputs.
+    #[cfg(library)]
+    pub fn second_split_sums(&self, n: usize, shapes: Shapes, x: &[i16], i: usize) -> [i128; 6] {
+        let [a, b, c] = self.parts(n, &self.windowed(n, shapes, x)).map(|part| self.split(n / 3, &part, i));
+        [a.1, a.2, b.1, b.2, c.1, c.2]
     }
 
     fn coefficients(&self, route: Route, n: usize, shapes: Shapes, x: &[i16]) -> Vec<i32> {
@@ -440,6 +481,7 @@ impl Bank {
         let route = match route {
             0 => Route::Direct,
             1 => Route::Short,
+            2 => Route::Double,
             _ => return 1,
         };
         let steps = match steps_at(route, n, table) {
@@ -674,7 +716,7 @@ fn backs(levels: &[i32], steps: &[i64]) -> Vec<i32> {
 /// The distance told for the largest of these steps.
 pub fn distance(route: Route, steps: &[i64]) -> u32 {
     let largest = steps.iter().max().expect("a table that is taken has a line");
-    let q = largest / 2 + if route == Route::Short { 16 } else { 0 };
+    let q = largest / 2 + i64::from(units(route));
     ((q + 8) / 16) as u32
 }
 

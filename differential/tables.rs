@@ -151,7 +151,7 @@ pub fn bytes(random: &mut Random, count: usize) -> Vec<u8> {
 }
 
 /// Routes for C that there are none of, some equal to one in their low bits.
-pub const NO_ROUTES: [u32; 7] = [2, 3, 256, 257, 1 << 31, (1 << 31) + 1, u32::MAX];
+pub const NO_ROUTES: [u32; 9] = [3, 4, 256, 257, 258, 1 << 31, (1 << 31) + 1, (1 << 31) + 2, u32::MAX];
 
 /// Any number is a level: both ends, about the coefficients' limit at this step, small ones, and any.
 pub fn one_level(random: &mut Random, step: i64) -> i32 {

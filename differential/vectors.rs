@@ -16,6 +16,7 @@ fn route(field: &str) -> Route {
     match field {
         "direct" => Route::Direct,
         "short" => Route::Short,
+        "double" => Route::Double,
         _ => panic!("not a route: {field}"),
     }
 }

@@ -23,7 +23,11 @@ static uint32_t told(uint32_t route, const char *text, uint32_t *distance)
     return dapplescree_told_distance(N, route, (const uint8_t *)text, strlen(text), distance, 1);
 }
 
-/* Block by block to levels by a route, 0 direct and 1 short, and back to hops. */
+/* the routes by their numbers */
+typedef uint32_t analysis(size_t, uint32_t, uint32_t, const int16_t *, size_t, int32_t *, size_t);
+static analysis *const analyses[] = {dapplescree_analyse_direct, dapplescree_analyse_short, dapplescree_analyse_double};
+
+/* Block by block to levels by a route, and back to hops. */
 static uint32_t pass(uint32_t route)
 {
     const uint8_t *bytes = (const uint8_t *)table;
@@ -32,7 +36,7 @@ static uint32_t pass(uint32_t route)
     int64_t state[DAPPLESCREE_STATE];
     uint32_t refused = dapplescree_stream_fresh(N, state, DAPPLESCREE_STATE);
     for (uint32_t b = 0; b <= HOPS; b++) {
-        refused |= (route == 0 ? dapplescree_analyse_direct : dapplescree_analyse_short)(N, 0, 0, padded + b * M, N, block, M);
+        refused |= analyses[route](N, 0, 0, padded + b * M, N, block, M);
         refused |= dapplescree_quantise(N, bytes, length, block, M, levels, M);
         /* a recorder stores the levels; at the desk they are played */
         refused |= dapplescree_stream_step_levels(state, DAPPLESCREE_STATE, b, 0, 0, bytes, length, levels, M, hops + b * M, M);
@@ -53,12 +57,12 @@ static uint32_t largest(void)
 
 int main(void)
 {
-    static const char *const names[] = {"directly", "by the short route"};
+    static const char *const names[] = {"directly", "by the short route", "by the double route"};
     static const char *const wrong[] = {"0,3,16\n4,17,333", "0,3,16\n5,17,333\n", "0,3,16\n3,17,333\n"};
     uint32_t distance = 0, kept = 1;
     for (int i = 0; i < SAMPLES; i++)
         padded[M + i] = (int16_t)(i * 7919 % 65536 - 32768);
-    for (uint32_t route = 0; route < 2; route++) {
+    for (uint32_t route = 0; route < 3; route++) {
         if (told(route, table, &distance) || pass(route))
             return 1;
         kept &= largest() <= distance;

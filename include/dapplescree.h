@@ -1,11 +1,12 @@
 /* Dapplescree: the filter bank of the seabed recorder, a windowed MDCT in whole numbers.
  *
  * Link target/staticlib/libc_face.a (`rt staticlib c_face`). N is the block length: 12, 24, 36, 72, 108 or 216, the tabled lengths. M = N/2 is
- * a hop. Direct analysis and synthesis are offered at every tabled length, the short route at 12, 24, 36 and 72. A sample is an int16_t. A
- * coefficient is an int32_t counted in units of 1/64. y, S, X, U, V, rnd, C and K below are those of document 01, with the turn cut in 864
- * parts and an exact half going away from zero (document 02, P4 and P5): sound without -32,768 has, with its sign turned, the same
- * coefficients with their signs turned. A recording has one hop of zeros put before it and one after it: of H hops it has H + 1 blocks, and
- * block b, b from 0 to H, covers its hops b - 1 and b, those outside it being zeros.
+ * a hop. Direct analysis and synthesis are offered at every tabled length, the short route at 12, 24, 36 and 72, the double route, which splits
+ * by three and again (document 02, P12), at 36 and 72. A sample is an int16_t. A coefficient is an int32_t counted in units of 1/64. y, S, X, U,
+ * V, rnd, C and K below are those of document 01, with the turn cut in 864 parts and an exact half going away from zero (document 02, P4 and
+ * P5): sound without -32,768 has, with its sign turned, the same coefficients with their signs turned. A recording has one hop of zeros put
+ * before it and one after it: of H hops it has H + 1 blocks, and block b, b from 0 to H, covers its hops b - 1 and b, those outside it being
+ * zeros.
  *
  * The coefficients of a recording lie in one of two orders, B = H + 1 being its blocks. An order is a number:
  *
@@ -49,7 +50,7 @@
  * Each call returns a number:
  *
  *   0  taken
- *   1  n is not tabled, or is a length at which the short route, where it is asked for, is not offered; or a route is above 1
+ *   1  n is not tabled, or is a length at which the short or the double route, where it is asked for, is not offered; or a route is above 2
  *   2  a length differs from the stated one, or hops is not 1 to 4095, or an order is above 1, or a hop is outside its recording, or a place is
  *      outside its hop
  *   3  a coefficient is below -536870912 or above 536870912
@@ -65,7 +66,7 @@
  *
  * No call allocates, and none copies a recording: by frequency, the coefficients of a few blocks at a time are gathered or put in their places. What a
  * call takes of the stack is measured (bench/run stack) and not proved, and doesn't grow with a recording: below 6 KiB for n up to 72, below 7 KiB
- * for n = 108 and below 18 KiB for n = 216; of a step on levels and of the synthesis of a recording 1 KiB more, of its analysis 4 KiB more.
+ * by the double route and for n = 108, and below 18 KiB for n = 216; of a step on levels and of the synthesis of a recording 1 KiB more, of its analysis 4 KiB more.
  *
  * These are promises for every value of every argument, under what C cannot check: each pointer is not null, also where its length is 0, is
  * aligned, and points to as many entries as the length that follows it says; a buffer that a call writes overlaps no other of the same call,
@@ -117,6 +118,15 @@ uint32_t dapplescree_analyse_direct(size_t n, uint32_t left, uint32_t right, con
 uint32_t dapplescree_analyse_short(size_t n, uint32_t left, uint32_t right, const int16_t *samples, size_t samples_length,
                                    int32_t *coefficients, size_t coefficients_length);
 
+/* One block whose joints have the shapes left and right, analysed by the double route.
+ *   1  n is not 36 or 72
+ *   8  as above
+ *   2  as above
+ *   0  coefficients[k] is the double route's X(k), k below M: within 32 of the direct one of the same shapes
+ */
+uint32_t dapplescree_analyse_double(size_t n, uint32_t left, uint32_t right, const int16_t *samples, size_t samples_length,
+                                    int32_t *coefficients, size_t coefficients_length);
+
 /* Makes a fresh stream.
  *   1  n is not tabled
  *   2  state_length is not DAPPLESCREE_STATE
@@ -144,9 +154,9 @@ uint32_t dapplescree_stream_fresh(size_t n, int64_t *state, size_t state_length)
  * The first hop of a fresh stream is the run-in. Blocks may be offered to a fresh stream in whatever order, and however often. Where each one
  * that is taken under number b is block b of one recording, as analysis with the shapes that it is offered with gave it or with each coefficient
  * changed by at most Q, the step taken under b, b at least 1, returns the recording's hop b - 1, each sample within (Q + 8) / 16 of it, rounded
- * down, so equal up to Q = 7, in any mixture of shapes; Q + 16 stands for Q where block b - 1 or b was analysed by the short route. Nothing is
- * asked of a block that is refused: it changes nothing, and returns no hop. A caller who analyses block by block hands in zeros for the hop
- * before the recording and for the one after it.
+ * down, so equal up to Q = 7, in any mixture of shapes; where block b - 1 or b was analysed by the double route Q + 32 stands for Q, and else
+ * Q + 16 where one of them was analysed by the short route. Nothing is asked of a block that is refused: it changes nothing, and returns no hop. A
+ * caller who analyses block by block hands in zeros for the hop before the recording and for the one after it.
  */
 uint32_t dapplescree_stream_step(int64_t *state, size_t state_length, uint32_t number, uint32_t left, uint32_t right,
                                  const int32_t *coefficients, size_t coefficients_length, int16_t *hop, size_t hop_length);
@@ -168,6 +178,14 @@ uint32_t dapplescree_analyse_recording_direct(size_t n, size_t hops, uint32_t or
 uint32_t dapplescree_analyse_recording_short(size_t n, size_t hops, uint32_t order, const int16_t *samples, size_t samples_length,
     int32_t *coefficients, size_t coefficients_length);
 
+/* A whole recording, every joint of it long, each block analysed by the double route.
+ *   1  n is not 36 or 72
+ *   2  as above
+ *   0  the same, with dapplescree_analyse_double
+ */
+uint32_t dapplescree_analyse_recording_double(size_t n, size_t hops, uint32_t order, const int16_t *samples, size_t samples_length,
+    int32_t *coefficients, size_t coefficients_length);
+
 /* Synthesis of a whole recording of `hops` hops, every joint of it long, from the order that is told.
  *   1  n is not tabled
  *   2  hops is not 1 to 4095, order is above 1, coefficients_length is not (hops + 1) * M, or samples_length is not hops * M
@@ -175,8 +193,8 @@ uint32_t dapplescree_analyse_recording_short(size_t n, size_t hops, uint32_t ord
  *   0  samples[h * M + i] is hop sample i of step h + 1, h below hops, where step b, b from 0 to hops, is taken under number b and both shapes 0,
  *      from a fresh stream on, with coefficients[place(b, k)] as coefficient k, k below M; the run-in, the hop of step 0, is dropped
  * Where the coefficients are as analysis gave them for the recording's blocks, by these calls or block by block with both shapes 0, each changed
- * by at most Q, every sample is within (Q + 8) / 16 of the recording's at the same place, rounded down, so equal up to Q = 7; Q + 16 stands for
- * Q where one of the two blocks that cover it was analysed by the short route.
+ * by at most Q, every sample is within (Q + 8) / 16 of the recording's at the same place, rounded down, so equal up to Q = 7; where one of the
+ * two blocks that cover it was analysed by the double route Q + 32 stands for Q, and else Q + 16 where one of them was by the short route.
  */
 uint32_t dapplescree_synthesise_recording(size_t n, size_t hops, uint32_t order, const int32_t *coefficients, size_t coefficients_length,
     int16_t *samples, size_t samples_length);
@@ -232,19 +250,21 @@ uint32_t dapplescree_dequantise(size_t n, const uint8_t *table, size_t table_len
     int32_t *coefficients, size_t coefficients_length);
 
 /* The sample distance that follows from a step table: how far returned sound may be from the recording where its coefficients went through levels
- * by this table. route is 0 for blocks analysed directly and 1 for the short route. distance is an array of one entry.
- *   1  n is not tabled, or route is above 1, or route is 1 and n is not 12, 24, 36 or 72
+ * by this table. route is 0 for blocks analysed directly, 1 for the short route and 2 for the double route. distance is an array of one entry.
+ *   1  n is not tabled, or route is above 2, or route is 1 and n is not 12, 24, 36 or 72, or route is 2 and n is not 36 or 72
  *   9, 10, 11  the table is turned away
  *   2  distance_length is not 1
- *   0  distance[0] is (Q + 8) / 16, rounded down, where Q is half the largest step, rounded down, by route 0 and 16 more than that by route 1
- * By route 0 it is 0 up to a largest step of 15, and 2048 at 65536; by route 1 it is 1 at least, and 2049 at 65536.
+ *   0  distance[0] is (Q + 8) / 16, rounded down, where Q is half the largest step, rounded down, by route 0, 16 more than that by route 1 and 32
+ *      more than that by route 2
+ * By route 0 it is 0 up to a largest step of 15, and 2048 at 65536; by route 1 it is 1 at least, and 2049 at 65536; by route 2 it is 2 at least,
+ * and 2050 at 65536.
  *
  * The told distance is kept. Each block of a recording is brought through dapplescree_quantise and back by one table, its own or a common one.
  * What a fresh stream takes under number b is block b of that recording, so brought; the step that takes it, b at least 1, returns the recording's
- * hop b - 1, each sample within the distance told for the coarser table of blocks b - 1 and b, the one with the larger largest step, by route 1
- * where one of the two was analysed by the short route, else by route 0. All else is as under dapplescree_stream_step: blocks in whatever order
- * and however often, refused ones in between, any mixture of shapes. By dapplescree_synthesise_recording, at long joints, it holds for every
- * sample and the two blocks that cover it.
+ * hop b - 1, each sample within the distance told for the coarser table of blocks b - 1 and b, the one with the larger largest step, by the
+ * larger of the numbers of the routes by which the two were analysed. All else is as under dapplescree_stream_step: blocks in whatever order and
+ * however often, refused ones in between, any mixture of shapes. By dapplescree_synthesise_recording, at long joints, it holds for every sample
+ * and the two blocks that cover it.
  */
 uint32_t dapplescree_told_distance(size_t n, uint32_t route, const uint8_t *table, size_t table_length, uint32_t *distance,
     size_t distance_length);

@@ -1,12 +1,13 @@
-"""Document 01, with P1, P2, P4 to P7 and P10 of document 02, in exact whole numbers, as plainly as they are written: with steps.py, which has P8, and shares.py,
+"""Document 01, with P1, P2, P4 to P7, P10 and P12 of document 02, in exact whole numbers, as plainly as they are written: with steps.py, which has P8, and shares.py,
 which has P9, the source of every stored output. It shares no table, folding or rounding with the crates."""
 from fractions import Fraction
 from functools import cache
 from math import factorial, floor
 
 LENGTHS = (12, 24, 36, 72, 108, 216)
-# those at which the short route is offered
+# those at which the short route is offered, and those of the double route
 SHORT_LENGTHS = (12, 24, 36, 72)
+DOUBLE_LENGTHS = (36, 72)
 STORAGE = 108
 P = Fraction(3141592653589793, 10**15)
 
@@ -91,16 +92,23 @@ def direct(N, left, right, x):
     return [rnd(s, 2**28) for s in S(N, y(N, left, right, x))]
 
 
-def short(N, left, right, x):
-    yy, d, third, sixth = y(N, left, right, x), 216 // N, N // 3, N // 6
+def split(N, y):
+    """The three parts of N inputs, N/3 each: a - b + c, rB, and rC with its sign."""
+    d, third = 216 // N, N // 3
     main, rB, rC = [], [], []
     for n in range(third):
-        a, b, c = yy[third - 1 - n], yy[2 * third - 1 - n], yy[N - 1 - n]
+        a, b, c = y[third - 1 - n], y[2 * third - 1 - n], y[N - 1 - n]
         e, f, s = 2 * c - a + b, a + b, 2 * d * (2 * n + 1)
         main.append(a - b + c)
         rB.append(rnd(e * C(216 - s) - f * (C(s - 72) + C(s + 72)), 2**26))
         rC.append(rnd(e * C(s) + f * (C(144 - s) + C(288 - s)), 2**26))
     signed = [-rC[n] if (n + N // 12) % 2 == 0 else rC[n] for n in range(third)]
+    return main, rB, signed
+
+
+def short(N, left, right, x):
+    main, rB, signed = split(N, y(N, left, right, x))
+    third, sixth = N // 3, N // 6
     A = [sum(L(N, n, k) * main[n] for n in range(third)) for k in range(sixth)]
     B = [sum(L(N, n, k) * rB[n] for n in range(third)) for k in range(sixth)]
     G = [sum(L(N, n, k) * signed[n] for n in range(third)) for k in range(sixth)]
@@ -113,8 +121,26 @@ def short(N, left, right, x):
     return X
 
 
-ROUTES = {"direct": direct, "short": short}
-OFFERED = {"direct": LENGTHS, "short": SHORT_LENGTHS}
+def scaled(N, y):
+    """What comes out of a part of N inputs: split while N divides by 12, each split doubling it, and else its own sums."""
+    if N % 12:
+        return S(N, y)
+    A, B, G = (scaled(N // 3, part) for part in split(N, y))
+    out = []
+    for k in range(N // 6):
+        D = G[N // 6 - 1 - k]
+        out += [B[k] + D, 2 * A[k], B[k] - D]
+    return out
+
+
+def double(N, left, right, x):
+    return [rnd(z, 2**30) for z in scaled(N, y(N, left, right, x))]
+
+
+ROUTES = {"direct": direct, "short": short, "double": double}
+OFFERED = {"direct": LENGTHS, "short": SHORT_LENGTHS, "double": DOUBLE_LENGTHS}
+# how far from the direct coefficients those of a route may lie
+UNITS = {"direct": 0, "short": 16, "double": 32}
 
 
 # Synthesis. X is a block's M coefficients.

@@ -2,7 +2,7 @@
 from functools import reduce
 
 import halves
-from bank import LENGTHS, LONG, ROUTES, SHORT, K, analyse
+from bank import LENGTHS, LONG, ROUTES, SHORT, UNITS, K, analyse
 
 ROOM = 220
 SHOWN = 40
@@ -29,16 +29,17 @@ def put(x, i, v):
     return x[:i] + [v] + x[i + 1 :]
 
 
-def both(N, joints, x, l, m):
-    """Both routes on the first l entries of x, between joints of two shapes, and a buffer of m marks."""
-    for route in ROUTES:
-        number, out = analyse(route, N, *joints, x[:l], m)
+def each_route(N, joints, x, l, m):
+    """Every route on the first l entries of x, between joints of two shapes, and a buffer of m marks."""
+    answers = {route: analyse(route, N, *joints, x[:l], m) for route in ROUTES}
+    for route, (number, out) in answers.items():
+        assert out is None or all(abs(v - w) <= UNITS[route] for v, w in zip(out, answers["direct"][1]))
         fields = [N, *joints, l, number] + shown([MARK] * m if out is None else out)
         print(",".join([route] + [str(f) for f in fields]))
 
 
 def block(N, joints, x):
-    both(N, joints, x, N, N // 2)
+    each_route(N, joints, x, N, N // 2)
 
 
 def noise(seed, span):
@@ -95,24 +96,24 @@ def shaped(N, joints):
 def wrong_lengths(N, M, joints):
     x = noise(N, 32768)
     for l, m in ((N - 1, M), (N + 1, M), (N, M - 1), (N, M + 1), (N - 1, M - 1), (N + 1, M + 1)):
-        both(N, joints, x, l, m)
+        each_route(N, joints, x, l, m)
     for l, m in ((0, 0), (0, M), (N, 0), (M, N), (M, M), (N, N)):
-        both(N, joints, x, l, m)
+        each_route(N, joints, x, l, m)
 
 
 def named(N):
     x = noise(5, 32768)
     for length in LENGTHS:
-        both(N, LONG_JOINTS, x, length, length // 2)
+        each_route(N, LONG_JOINTS, x, length, length // 2)
 
 
 def untabled(N, l, m):
     named(N)
-    both(N, LONG_JOINTS, noise(6, 32768), l, m)
-    both(N, LONG_JOINTS, noise(7, 32768), 0, 0)
-    both(N, LONG_JOINTS, noise(8, 32768), 80, 80)
-    both(N, (2, LONG), noise(6, 32768), l, m)
-    both(N, (SHORT, 2), noise(7, 32768), 0, 0)
+    each_route(N, LONG_JOINTS, noise(6, 32768), l, m)
+    each_route(N, LONG_JOINTS, noise(7, 32768), 0, 0)
+    each_route(N, LONG_JOINTS, noise(8, 32768), 80, 80)
+    each_route(N, (2, LONG), noise(6, 32768), l, m)
+    each_route(N, (SHORT, 2), noise(7, 32768), 0, 0)
 
 
 for N in LENGTHS:

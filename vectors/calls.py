@@ -145,7 +145,7 @@ def step_tables(N, n):
     line("quantise", n, data, x, length, *steps.quantise(n, data, x, length))
     data, levels, length = table(M), near_levels(near(M)), near(M)
     line("dequantise", n, data, levels, length, *steps.dequantise(n, data, levels, length))
-    data, route, length = table(M), rng.choice([0, 0, 0, 1, 1, 1, 2, LAST]), near(1)
+    data, route, length = table(M), rng.choice([0, 0, 0, 1, 1, 1, 2, 2, 2, 3, LAST]), near(1)
     line("told_distance", n, route, data, length, *steps.told_distance(n, route, data, length))
 
 
@@ -234,6 +234,8 @@ for N in LENGTHS:
     for shapes in product(SHAPES, SHAPES):
         for n, w in enumerate(bank.window(N, *shapes)):
             line("W", N, *shapes, n, w)
+# those of the last parts of the double route too
+for N in (4, 8, *LENGTHS):
     for n in range(N):
         for k in range(N // 2):
             line("K", N, n, k, bank.K(N, n, k))

@@ -2,7 +2,7 @@
 A block has the sample v at place i, w at place j, and zeros elsewhere; its coefficients differ from those of the rule before P5, by which a half went up.
 What is found stands in blocks.py and stream.py, and in the programs that they are for."""
 import bank
-from bank import LENGTHS, LONG, ROUTES, SHORT_LENGTHS, C, K, L, W, rnd
+from bank import DOUBLE_LENGTHS, LENGTHS, LONG, ROUTES, SHORT_LENGTHS, C, K, L, W, rnd
 
 SAMPLES = range(-32768, 32768)
 
@@ -75,14 +75,21 @@ def in_turn(N, which):
         yield i, v, j, w
 
 
+def lone(N, at, y):
+    """Of a part with the input y at one place and zeros elsewhere: where its three parts have an input, and a - b + c, rB, and rC with its sign there."""
+    third = N // 3
+    n = third - 1 - at % third
+    a, b, c = (y if at // third == which else 0 for which in range(3))
+    rB, rC = (rnd(z, 2**26) for z in turn(N, n, a, b, c))
+    return n, (a - b + c, rB, -rC if (n + N // 12) % 2 == 0 else rC)
+
+
 def in_last(N, sign):
     """B(k) + D(k) for 1, B(k) - D(k) for -1: samples at two places of a, b or c that share no rounding."""
     third = N // 3
 
     def part(at, y, k):
-        n = third - 1 - at % third
-        rB, rC = (rnd(z, 2**26) for z in turn(N, n, *(y if at // third == which else 0 for which in range(3))))
-        signed = -rC if (n + N // 12) % 2 == 0 else rC
+        n, (_, rB, signed) = lone(N, at, y)
         return L(N, n, k) * rB + sign * L(N, n, N // 6 - 1 - k) * signed
 
     for k in range(N // 6):
@@ -93,12 +100,48 @@ def in_last(N, sign):
                     yield i, v, j, w
 
 
+def in_second_turn(N, part, which):
+    """rB for 0, rC for 1, at n = 0 of the split of a part: samples at the places of its a and its c, one in the block's a and one in its c."""
+    third = N // 3
+    i, j = third - third // 3, 2 * third
+    first = {v: turn(third, 0, lone(N, i, y)[1][part], 0, 0)[which] for v, y in windowed(N, i).items()}
+    second = {w: turn(third, 0, 0, 0, lone(N, j, y)[1][part])[which] for w, y in windowed(N, j).items()}
+    for v, w in pairs(first, second, 2**26):
+        yield i, v, j, w
+
+
+def scaled(N, at, y, k):
+    """What comes out at k, by the double route, of a part with the input y at one place and zeros elsewhere."""
+    if N % 12:
+        return y * K(N, at, k)
+    n, (main, rB, signed) = lone(N, at, y)
+    if k % 3 == 1:
+        return 2 * scaled(N // 3, n, main, k // 3)
+    B, D = scaled(N // 3, n, rB, k // 3), scaled(N // 3, n, signed, N // 6 - 1 - k // 3)
+    return B + D if k % 3 == 0 else B - D
+
+
+def in_out(N, rest):
+    """What the double route rounds to coefficient 3k + rest: samples at two places that share no rounding."""
+    for k in range(rest, N // 2, 3):
+        for j in range(N):
+            for i in range(j):
+                if (i - j) % (N // 9):
+                    first, second = ({v: scaled(N, at, y, k) for v, y in windowed(N, at).items()} for at in (i, j))
+                    for v, w in pairs(first, second, 2**30):
+                        yield i, v, j, w
+
+
 def found(N):
     """By stage, a block that meets its half."""
     stages = [("y", "direct", in_y(N)), ("X", "direct", in_X(N, range(N // 2)))]
     if N in SHORT_LENGTHS:
         # A(k) is what X(3k + 1) rounds
         stages += [("A", "short", in_X(N, range(1, N // 2, 3))), ("rB", "short", in_turn(N, 0)), ("rC", "short", in_turn(N, 1)), ("B + D", "short", in_last(N, 1)), ("B - D", "short", in_last(N, -1))]
+    if N in DOUBLE_LENGTHS:
+        for part, name in enumerate(("a - b + c", "rB", "rC")):
+            stages += [(f"rB of {name}", "double", in_second_turn(N, part, 0)), (f"rC of {name}", "double", in_second_turn(N, part, 1))]
+        stages += [(f"X(3k + {rest})", "double", in_out(N, rest)) for rest in range(3)]
     return [(stage, next(c for c in candidates if shows(route, N, *c))) for stage, route, candidates in stages]
 
 

@@ -2,9 +2,9 @@
 What a coefficient moves by is held to half its step, and what is played back to the distance that its tables tell."""
 from functools import reduce
 
-from bank import COEFFICIENT_LIMIT, LENGTHS, LONG, SHORT, SHORT_LENGTHS, STATE, STORAGE, analyse, fresh, state_of, stream_fresh, tail_limit
+from bank import COEFFICIENT_LIMIT, DOUBLE_LENGTHS, LENGTHS, LONG, SHORT, SHORT_LENGTHS, STATE, STORAGE, analyse, fresh, state_of, stream_fresh, tail_limit
 from noise import ROOM, noise, random
-from steps import dequantise, quantise, report, steps, stream_step_levels, told, told_distance, verdict
+from steps import ROUTE_NAMES, dequantise, quantise, report, steps, stream_step_levels, told, told_distance, verdict
 
 TEXT = 2048
 LONG_TEXT = 40000
@@ -94,7 +94,7 @@ def judge(N, M, data, number=None, at=None):
     assert number in (None, found[0]) and at in (None, found[1]) and len(data) <= (LONG_TEXT if data.count(b"\n") > M + 1 else TEXT)
     calls = [f(N, data, [77] * M, M)[0] for f in (quantise, dequantise)]
     assert N not in LENGTHS or calls == [found[0]] * 2
-    line("table", N, len(data), total_bytes(data), *told("direct", N, data), *told("short", N, data), *calls)
+    line("table", N, len(data), total_bytes(data), *[field for route in ROUTE_NAMES for field in told(route, N, data)], *calls)
     show_report(str(N).encode(), data)
 
 
@@ -194,7 +194,7 @@ def sizes(N, M, data):
 def tell_tables(N, M):
     """The told distance by the number of a route, into none, one or two of two places, which are both shown afterwards."""
     for template in TOLD_INTO:
-        for route in (0, 1, 2, 2**32 - 1):
+        for route in (0, 1, 2, 3, 2**32 - 1):
             fields = []
             for length in range(3):
                 number, written = told_distance(N, route, text(M, template), length)
@@ -324,7 +324,9 @@ def sound(N, h):
 
 
 def route_of(N, b):
-    return "short" if N in SHORT_LENGTHS and b % 3 == 2 else "direct"
+    if b % 3 == 2 and N in SHORT_LENGTHS:
+        return "short"
+    return "double" if b % 3 == 1 and N in DOUBLE_LENGTHS else "direct"
 
 
 def played(N, M):

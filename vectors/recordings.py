@@ -54,7 +54,8 @@ def quick_U(N, X):
 
 def quicken():
     """Has bank's calls sum over lists: thousands of blocks then take a minute or two, not an hour."""
-    for N in LENGTHS:
+    # the last parts of the double route among them
+    for N in (4, 8, *LENGTHS):
         block = noise(N, N, 32768)
         assert quick_S(N, block) == bank.S(N, block)
         assert quick_U(N, block[: N // 2]) == bank.U(N, block[: N // 2])

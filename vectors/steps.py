@@ -1,10 +1,10 @@
-"""P8 of document 02, step tables that customers edit, as plainly as it is written, over bank.py.
+"""P8 of document 02, step tables that customers edit, with P12's distance, as plainly as they are written, over bank.py.
 M is how many coefficients a block has, data the bytes of a table. It shares no code with the crates."""
-from bank import COEFFICIENT_LIMIT, LENGTHS, OFFERED, STATE, beyond, number, rnd, stream_step
+from bank import COEFFICIENT_LIMIT, LENGTHS, OFFERED, STATE, UNITS, beyond, number, rnd, stream_step
 
 LARGEST_STEP = 65536
 # as they are numbered for C
-ROUTE_NAMES = ("direct", "short")
+ROUTE_NAMES = ("direct", "short", "double")
 
 
 def entry(M, line):
@@ -61,7 +61,7 @@ def told(route, N, data):
     refused, _ = verdict(N // 2, data)
     if refused:
         return refused, 0
-    Q = max(steps(N // 2, data)) // 2 + (16 if route == "short" else 0)
+    Q = max(steps(N // 2, data)) // 2 + UNITS[route]
     return 0, (Q + 8) // 16
 
 

@@ -2,7 +2,7 @@
 from functools import reduce
 
 import halves
-from bank import LENGTHS, LONG, SHAPES, SHORT, SHORT_LENGTHS, STATE, STORAGE, K, analyse, fresh, next_hop, state_of, step, stream_fresh, stream_step, tail_limit, window
+from bank import DOUBLE_LENGTHS, LENGTHS, LONG, SHAPES, SHORT, SHORT_LENGTHS, STATE, STORAGE, UNITS, K, analyse, fresh, next_hop, state_of, step, stream_fresh, stream_step, tail_limit, window
 
 ROOM = 112
 SHOWN = 40
@@ -193,11 +193,13 @@ def sound(N, h):
 
 
 def route_of(N, b):
-    return "short" if N in SHORT_LENGTHS and b % 3 == 2 else "direct"
+    if b % 3 == 2 and N in SHORT_LENGTHS:
+        return "short"
+    return "double" if b % 3 == 1 and N in DOUBLE_LENGTHS else "direct"
 
 
 def played(N, M):
-    """Blocks analysed and played back, each after one that has the other left shape: what P7 says of any mixture."""
+    """Blocks analysed and played back, each after one that has the other left shape: what P7 says of any mixture, with P12's distance."""
     stream = fresh(N)[1]
     for b in range(PLAYED):
         hop = sound(N, b)
@@ -207,8 +209,8 @@ def played(N, M):
         assert wrong == (8, None, stream)
         taken, returned, stream = step(stream, b, left, right, X, M)
         line("back", N, b, left, right, number, wrong[0], taken, sum(v != w for v, w in zip(hop, returned)))
-        routes = {route_of(N, b), route_of(N, max(b - 1, 0))}
-        assert b == 0 or all(abs(v - w) <= ("short" in routes) for v, w in zip(hop, returned))
+        units = max(UNITS[route_of(N, b)], UNITS[route_of(N, max(b - 1, 0))])
+        assert b == 0 or all(abs(v - w) <= (units + 8) // 16 for v, w in zip(hop, returned))
 
 
 def unexpected(N, M):

@@ -175,28 +175,29 @@ impl Compare {
 
     /// The numbers that each call over recordings returns to what it is told, with these coefficients, which the analyses do not take, and all else
     /// as it should be.
-    fn answers(&mut self, told: Recording, recording: Recording, x: &[i32]) -> [u32; 6] {
+    fn answers(&mut self, told: Recording, recording: Recording, x: &[i32]) -> [u32; 7] {
         let Recording { n, hops, .. } = recording;
         let sound = samples(&mut self.random, hops * n / 2);
-        let [direct, short] = ROUTES.map(|route| self.analyse_recording(route, told, &sound, long(recording)).0);
+        let [direct, short, double] = ROUTES.map(|route| self.analyse_recording(route, told, &sound, long(recording)).0);
         let back = self.synthesise_recording(told, x, hops * n / 2).0;
         let printed = self.page(told, x, page_length(n, hops)).0;
         let reordered = self.reorder(told, x, long(recording)).0;
         let sample = Sample { told, lists: [x.to_vec(), x.to_vec()], hop: hops - 1, place: 0, length: 3 };
-        [direct, short, back, printed, reordered, self.largest_share_recording(&sample).0]
+        [direct, short, double, back, printed, reordered, self.largest_share_recording(&sample).0]
     }
 
     /// A number that is no order is 2: behind an N that is not tabled, and before a coefficient beyond its limit.
     fn wrong_orders(&mut self, n: usize, hops: usize) {
-        let short = if offered(Route::Short, n) { 2 } else { 1 };
+        let [direct, short, double] = ROUTES.map(|route| if offered(route, n) { 2 } else { 1 });
+        let due = [direct, short, double, 2, 2, 2, 2];
         for order in NO_ORDERS {
             let recording = Recording { n, hops, order };
             let mut x = coefficients(&mut self.random, long(recording));
-            assert_eq!(self.answers(recording, recording, &x), [2, short, 2, 2, 2, 2]);
+            assert_eq!(self.answers(recording, recording, &x), due);
             let untabled = self.random.pick(&WRONG_N);
-            assert_eq!(self.answers(Recording { n: untabled, ..recording }, recording, &x), [1; 6]);
+            assert_eq!(self.answers(Recording { n: untabled, ..recording }, recording, &x), [1; 7]);
             x[self.random.below(long(recording))] = self.random.pick(&BEYOND);
-            assert_eq!(self.answers(recording, recording, &x), [2, short, 2, 2, 2, 2]);
+            assert_eq!(self.answers(recording, recording, &x), due);
         }
     }
 

@@ -1,6 +1,6 @@
 //! The calls over step tables (document 02, P8).
 use super::*;
-use crate::reference::{distance, steps, LARGEST_STEP};
+use crate::reference::{distance, steps, DOUBLE_LENGTHS, LARGEST_STEP};
 use crate::tables::*;
 
 /// A table as it is written.
@@ -30,6 +30,7 @@ fn numbered(route: Route) -> u32 {
     match route {
         Route::Direct => 0,
         Route::Short => 1,
+        Route::Double => 2,
     }
 }
 
@@ -298,7 +299,7 @@ impl Compare {
             let x = levels(&mut self.random, count);
             self.dequantise(named, &table, &x, length);
             let any = self.random.pick(&NO_ROUTES);
-            let (route, length) = (self.random.pick(&[0, 1, any]), self.some_length(1));
+            let (route, length) = (self.random.pick(&[0, 1, 2, any]), self.some_length(1));
             self.told_distance(named, route, &table, length);
         }
         for n in (0..300).chain(WRONG_N) {
@@ -306,7 +307,7 @@ impl Compare {
             let (x, levels) = (coefficients(&mut self.random, m), levels(&mut self.random, m));
             self.quantise(n, &table, &x, m);
             self.dequantise(n, &table, &levels, m);
-            for route in [0, 1].into_iter().chain(NO_ROUTES) {
+            for route in [0, 1, 2].into_iter().chain(NO_ROUTES) {
                 self.told_distance(n, route, &table, 1);
             }
         }
@@ -416,10 +417,10 @@ impl Compare {
         }
     }
 
-    /// Hop h came back within the distance told for the coarser table of its two blocks, by the short route if one of them went by it.
+    /// Hop h came back within the distance told for the coarser table of its two blocks, by the route of theirs that has more units.
     fn within_told(&mut self, stored: &Stored, h: usize, hop: &[i16], how: &str) {
         let Stored { n, x, joints, routes, tables, levels } = stored;
-        let route = if routes[h..h + 2].contains(&Route::Short) { Route::Short } else { Route::Direct };
+        let route = if units(routes[h]) > units(routes[h + 1]) { routes[h] } else { routes[h + 1] };
         let told = [h, h + 1].map(|b| self.told_distance(*n, numbered(route), &tables[b], 1).1[0]);
         let bound = told[0].max(told[1]);
         let given = &x[h * n / 2..(h + 1) * n / 2];
@@ -497,7 +498,8 @@ impl Compare {
         self.table_causes(n);
         self.level_causes(n);
         self.stored_trips(n);
-        if n == LENGTHS[0] {
+        // once, at a length that has every route
+        if n == DOUBLE_LENGTHS[0] {
             self.every_step(n);
         }
     }

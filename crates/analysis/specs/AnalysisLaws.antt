@@ -1,5 +1,5 @@
 -- Laws of a block by a route: a route is offered at tabled lengths only, and gives M coefficients.
-use mathlib.Core.Path.{_≡_}
+use mathlib.Core.Path.{_≡_, refl}
 use mathlib.Core.List.{List}
 use Prim.Native.Nat.{ℕ, _/_}
 use lib.Dec.{T}
@@ -7,11 +7,15 @@ use lib.ListN.{length}
 use lib.IntN.{ℤ}
 use Rattle.arithmetic.specs.ListLaws.{length-table}
 use Rattle.cosine.specs.Kernels.{tabled, rising, falling}
+use Rattle.cosine.specs.LengthLaws.{short-tabled}
 use Rattle.transform.specs.Analysis.{y, X, direct}
 use Rattle.split.specs.ShortRoute.{shortX, short}
 use Rattle.split.specs.OfferLaws as O
+use Rattle.double_route.specs.Double as D
+use Rattle.double_route.specs.Double.{doubleX, double}
+use Rattle.double_route.specs.PieceLaws as P
 use Rattle.analysis.specs.declared.Route.{Route}
-use Rattle.analysis.specs.declared.Route.the-variants.{Direct, Short}
+use Rattle.analysis.specs.declared.Route.the-variants.{Direct, Short, Double}
 use Rattle.analysis.specs.Analysis.{offered, spectrum, coefficients}
 
 -- a route is offered at tabled lengths only
@@ -19,13 +23,24 @@ pub offered-tabled : (route : Route) (N : ℕ) → T (offered route N) → T (ta
 unfolding offered
 offered-tabled Direct N o = o
 offered-tabled Short N o = O.offered-tabled N o
+offered-tabled Double N o = short-tabled N (P.offered-short N o)
 
--- M coefficients by either route
+-- M coefficients by each route
 spectrum-length : (route : Route) (N : ℕ) (u : ℕ → ℤ) → length (spectrum route N u) ≡ N / 2
-unfolding spectrum direct short
+unfolding spectrum direct short double
 spectrum-length Direct N u = length-table (X N u) (N / 2)
 spectrum-length Short N u = length-table (shortX N u) (N / 2)
+spectrum-length Double N u = length-table (doubleX N u) (N / 2)
 
 pub coefficients-length : (route : Route) (N l r : ℕ) (x : List ℤ) → length (coefficients route N l r x) ≡ N / 2
 unfolding coefficients
 coefficients-length route N l r x = spectrum-length route N (y N (rising l N) (falling r N) x)
+
+-- ---- the double route, by its lengths
+-- what is not its first length is its last
+pub last-double : (N : ℕ) → T (D.offered N) → ¬ (N ≡ 36) → N ≡ 72
+last-double N o = P.either N o (λ n. ¬ (n ≡ 36) → n ≡ 72) (λ h. absurd (h refl)) (λ h. refl)
+
+-- the same at a length under another name
+pub double-at : (n N l r : ℕ) (x out : List ℤ) → n ≡ N → out ≡ double N (y N (rising l N) (falling r N) x) → out ≡ double n (y n (rising l n) (falling r n) x)
+double-at n N l r x out e h = rw e h

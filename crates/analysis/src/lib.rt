@@ -1,6 +1,7 @@
 // The routes, and one block of a length at which its route is offered, valid by its requires.
 // No function here is a public call: `recording` and the public calls over blocks call `analyse_block`, after every check, and `listing` the direct route.
 pub mod direct;
+mod double;
 mod short;
 
 ghost use mathlib.Core.Path.{_≡_};
@@ -9,10 +10,11 @@ ghost use lib.Dec.{T};
 ghost use lib.ListN.{length};
 ghost use Rattle.analysis.specs.Analysis.{offered, coefficients};
 
-// How a block is analysed. The short route is document 01's term for the one in thirds.
+// How a block is analysed. The short route is document 01's term for the one in thirds; the double route, document 02's third, splits the thirds again.
 pub enum Route {
     Direct,
     Short,
+    Double,
 }
 
 // A valid block's coefficients, by a route, with joints of the shapes left and right.
@@ -23,5 +25,6 @@ pub fn analyse_block(route: Route, n: usize, left: u32, right: u32, x: &[i16], o
     match route {
         Route::Direct => direct::analyse(n, left, right, x, out),
         Route::Short => short::analyse(n, left, right, x, out),
+        Route::Double => double::analyse(n, left, right, x, out),
     }
 }

@@ -316,7 +316,7 @@ fn short_24(left: u32, right: u32, x: &[i16], out: &mut [i32])
     split::short_block(24, left, right, x, &block, &a, &plus, &minus, out);
 }
 
-fn windowed_36(left: u32, right: u32, x: &[i16], block: &mut [i32])
+pub fn windowed_36(left: u32, right: u32, x: &[i16], block: &mut [i32])
     requires { ⌜ length (now x) ≡ 36 ⌝ }
     requires { ⌜ length (now block) ≡ 36 ⌝ }
     ensures { λ _. ⌜ Windowed 36 left right (now (x .entry)) (now (block .exit)) ⌝ }
@@ -348,7 +348,7 @@ fn short_36(left: u32, right: u32, x: &[i16], out: &mut [i32])
     split::short_block(36, left, right, x, &block, &a, &plus, &minus, out);
 }
 
-fn windowed_72(left: u32, right: u32, x: &[i16], block: &mut [i32])
+pub fn windowed_72(left: u32, right: u32, x: &[i16], block: &mut [i32])
     requires { ⌜ length (now x) ≡ 72 ⌝ }
     requires { ⌜ length (now block) ≡ 72 ⌝ }
     ensures { λ _. ⌜ Windowed 72 left right (now (x .entry)) (now (block .exit)) ⌝ }

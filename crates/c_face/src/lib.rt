@@ -1,7 +1,7 @@
 // The calls for C: a slice crosses as a pointer and a length, a stream as a state. Each hands on to the bank's own call.
 // No call has a requires: any numbers and any lengths may be handed in. include/dapplescree.h says the same in C's words.
 ghost use mathlib.Core.Path.{_≡_};
-ghost use Rattle.analysis.specs.declared.Route.the-variants.{Direct, Short};
+ghost use Rattle.analysis.specs.declared.Route.the-variants.{Direct, Short, Double};
 ghost use Rattle.block_calls.specs.Analysis.{analyseCode, analyseOut};
 ghost use Rattle.recording_calls.specs.Recordings.{recordedCode, recordedOut, playedCode, playedOut, reorderCode, reorderOut};
 ghost use Rattle.orders.specs.Orders.{orderOf, hopsIn};
@@ -40,6 +40,21 @@ pub extern "C" fn dapplescree_analyse_short(
     ensures { λ _. ⌜ now (coefficients .exit) ≡ analyseOut Short n left right (now (samples .entry)) (now (coefficients .entry)) ⌝ }
 {
     filter_bank::analyse(Route::Short, n, left, right, samples, coefficients)
+}
+
+// One block by the double route.
+#[no_mangle]
+pub extern "C" fn dapplescree_analyse_double(
+    n: usize,
+    left: u32,
+    right: u32,
+    samples: &[i16],
+    coefficients: &mut [i32],
+) -> u32
+    ensures { λ r. ⌜ r ≡ analyseCode Double n left right (now (samples .entry)) (now (coefficients .entry)) ⌝ }
+    ensures { λ _. ⌜ now (coefficients .exit) ≡ analyseOut Double n left right (now (samples .entry)) (now (coefficients .entry)) ⌝ }
+{
+    filter_bank::analyse(Route::Double, n, left, right, samples, coefficients)
 }
 
 // A fresh stream, in a state: `filter_bank::fresh_in_place`.
@@ -100,6 +115,23 @@ pub extern "C" fn dapplescree_analyse_recording_short(
     let by = orders::numbered(order);
     let count = orders::hops_in(order, hops);
     filter_bank::analyse_recording(Route::Short, by, n, count, samples, coefficients)
+}
+
+// A whole recording by the double route.
+#[no_mangle]
+pub extern "C" fn dapplescree_analyse_recording_double(
+    n: usize,
+    hops: usize,
+    order: u32,
+    samples: &[i16],
+    coefficients: &mut [i32],
+) -> u32
+    ensures { λ r. ⌜ r ≡ recordedCode Double n (hopsIn order hops) (now (samples .entry)) (now (coefficients .entry)) ⌝ }
+    ensures { λ _. ⌜ now (coefficients .exit) ≡ recordedOut Double (orderOf order) n (hopsIn order hops) (now (samples .entry)) (now (coefficients .entry)) ⌝ }
+{
+    let by = orders::numbered(order);
+    let count = orders::hops_in(order, hops);
+    filter_bank::analyse_recording(Route::Double, by, n, count, samples, coefficients)
 }
 
 // A whole recording's samples: `filter_bank::synthesise_recording`.

@@ -1,4 +1,4 @@
-// Blocks through the public analysis, by both routes and between joints of every shape, compared with what vectors/blocks.py makes from the definitions.
+// Blocks through the public analysis, by every route and between joints of every shape, compared with what vectors/blocks.py makes from the definitions.
 ghost use Prim.Native.Nat.{_≤_, _<_, _*_, _/_, _^_};
 ghost use lib.Dec.{T};
 ghost use Rattle.cosine.specs.Kernels.{tabled};
@@ -24,6 +24,7 @@ fn show_route(route: Route) {
     match route {
         Route::Direct => report::word(b"direct"),
         Route::Short => report::word(b"short"),
+        Route::Double => report::word(b"double"),
     }
 }
 
@@ -47,18 +48,19 @@ fn offer(route: Route, n: usize, left: u32, right: u32, x: [i16; ROOM], l: usize
     told(route, n, left, right, &x[..l], &mut out[..m]);
 }
 
-fn both(n: usize, left: u32, right: u32, x: [i16; ROOM], l: usize, m: usize)
+fn each_route(n: usize, left: u32, right: u32, x: [i16; ROOM], l: usize, m: usize)
     requires { ⌜ (l ≤ 220) × (m ≤ 220) ⌝ }
 {
     offer(Route::Direct, n, left, right, x, l, m);
     offer(Route::Short, n, left, right, x, l, m);
+    offer(Route::Double, n, left, right, x, l, m);
 }
 
 // A block of the stated lengths.
 fn block(n: usize, left: u32, right: u32, x: [i16; ROOM])
     requires { ⌜ n ≤ 216 ⌝ }
 {
-    both(n, left, right, x, n, n / 2);
+    each_route(n, left, right, x, n, n / 2);
 }
 
 // Noise of a seed and a span.
@@ -234,24 +236,24 @@ fn lengths_beside(n: usize, m: usize, left: u32, right: u32)
     requires { ⌜ (1 ≤ n) × (n ≤ 216) × (1 ≤ m) × (m ≤ 108) ⌝ }
 {
     let x = noise(n as u64, 32768);
-    both(n, left, right, x, n - 1, m);
-    both(n, left, right, x, n + 1, m);
-    both(n, left, right, x, n, m - 1);
-    both(n, left, right, x, n, m + 1);
-    both(n, left, right, x, n - 1, m - 1);
-    both(n, left, right, x, n + 1, m + 1);
+    each_route(n, left, right, x, n - 1, m);
+    each_route(n, left, right, x, n + 1, m);
+    each_route(n, left, right, x, n, m - 1);
+    each_route(n, left, right, x, n, m + 1);
+    each_route(n, left, right, x, n - 1, m - 1);
+    each_route(n, left, right, x, n + 1, m + 1);
 }
 
 fn exchanged_lengths(n: usize, m: usize, left: u32, right: u32)
     requires { ⌜ (n ≤ 216) × (m ≤ 108) ⌝ }
 {
     let x = noise(n as u64, 32768);
-    both(n, left, right, x, 0, 0);
-    both(n, left, right, x, 0, m);
-    both(n, left, right, x, n, 0);
-    both(n, left, right, x, m, n);
-    both(n, left, right, x, m, m);
-    both(n, left, right, x, n, n);
+    each_route(n, left, right, x, 0, 0);
+    each_route(n, left, right, x, 0, m);
+    each_route(n, left, right, x, n, 0);
+    each_route(n, left, right, x, m, n);
+    each_route(n, left, right, x, m, m);
+    each_route(n, left, right, x, n, n);
 }
 
 fn wrong_lengths(n: usize, m: usize, left: u32, right: u32)
@@ -264,12 +266,12 @@ fn wrong_lengths(n: usize, m: usize, left: u32, right: u32)
 // The buffers of every length under the name of one.
 fn named(n: usize) {
     let x = noise(5, 32768);
-    both(n, LONG, LONG, x, 12, 6);
-    both(n, LONG, LONG, x, 24, 12);
-    both(n, LONG, LONG, x, 36, 18);
-    both(n, LONG, LONG, x, 72, 36);
-    both(n, LONG, LONG, x, 108, 54);
-    both(n, LONG, LONG, x, 216, 108);
+    each_route(n, LONG, LONG, x, 12, 6);
+    each_route(n, LONG, LONG, x, 24, 12);
+    each_route(n, LONG, LONG, x, 36, 18);
+    each_route(n, LONG, LONG, x, 72, 36);
+    each_route(n, LONG, LONG, x, 108, 54);
+    each_route(n, LONG, LONG, x, 216, 108);
 }
 
 // A length that is not tabled: with buffers of every length, with its own or others, with none, and with shapes above 1.
@@ -277,11 +279,11 @@ fn untabled(n: usize, l: usize, m: usize)
     requires { ⌜ (l ≤ 220) × (m ≤ 220) ⌝ }
 {
     named(n);
-    both(n, LONG, LONG, noise(6, 32768), l, m);
-    both(n, LONG, LONG, noise(7, 32768), 0, 0);
-    both(n, LONG, LONG, noise(8, 32768), 80, 80);
-    both(n, 2, LONG, noise(6, 32768), l, m);
-    both(n, SHORT, 2, noise(7, 32768), 0, 0);
+    each_route(n, LONG, LONG, noise(6, 32768), l, m);
+    each_route(n, LONG, LONG, noise(7, 32768), 0, 0);
+    each_route(n, LONG, LONG, noise(8, 32768), 80, 80);
+    each_route(n, 2, LONG, noise(6, 32768), l, m);
+    each_route(n, SHORT, 2, noise(7, 32768), 0, 0);
 }
 
 // Blocks between long joints.
@@ -372,6 +374,31 @@ fn halves_72() {
     pair(72, 1, 13215, 0, -26755);
 }
 
+// By the double route rB and rC of the splits of a - b + c, of rB and of rC, and then what X(3k), X(3k + 1) and X(3k + 2) are rounded from.
+fn double_halves_36() {
+    pair(36, 8, 8352, 24, -29699);
+    pair(36, 8, -10140, 24, -30330);
+    pair(36, 8, -14110, 24, -28476);
+    pair(36, 8, -7153, 24, -32523);
+    pair(36, 8, -5281, 24, -32578);
+    pair(36, 8, 9549, 24, -31886);
+    pair(36, 0, -21191, 1, 1124);
+    pair(36, 0, 25054, 1, -4841);
+    pair(36, 0, 20186, 1, 2861);
+}
+
+fn double_halves_72() {
+    pair(72, 16, 5259, 48, -25371);
+    pair(72, 16, 10059, 48, -32702);
+    pair(72, 16, -18590, 48, -31185);
+    pair(72, 16, 4408, 48, -32453);
+    pair(72, 16, 21157, 48, -12395);
+    pair(72, 16, 18227, 48, -1200);
+    pair(72, 0, 23299, 1, -31091);
+    pair(72, 0, 23500, 1, 5140);
+    pair(72, 0, 9569, 1, 19302);
+}
+
 // At the two longest lengths y and X.
 fn halves_long() {
     pair(108, 0, -16384, 1, 1);
@@ -384,7 +411,9 @@ fn halves() {
     halves_12();
     halves_24();
     halves_36();
+    double_halves_36();
     halves_72();
+    double_halves_72();
     halves_long();
 }
 

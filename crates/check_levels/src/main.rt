@@ -290,6 +290,7 @@ fn judge(n: usize, m: usize, table: &[u8])
     report::count(report::sum_bytes(table) as usize);
     show_told(Route::Direct, n, table);
     show_told(Route::Short, n, table);
+    show_told(Route::Double, n, table);
     try_levels(n, m, table);
     report::end();
     show_report_at(n, table);
@@ -502,7 +503,7 @@ fn taken(n: usize, m: usize)
     lines(n, m, 65430, m, m);
 }
 
-// Where a told distance becomes one larger: half the largest step is 7 or 8 more than a multiple of 16, and 16 more by the short route.
+// Where a told distance becomes one larger: half the largest step is 7 or 8 more than a multiple of 16, and 16 or 32 more by the other routes.
 fn tellings(n: usize, m: usize)
     requires { ⌜ (6 ≤ m) × (m ≤ 108) ⌝ }
 {
@@ -790,11 +791,12 @@ fn tell_by(number: u32, n: usize, table: &[u8]) {
     report::end();
 }
 
-// The numbers of both routes, and numbers of none.
+// The numbers of the routes, and numbers of none.
 fn tell_each(n: usize, table: &[u8]) {
     tell_by(0, n, table);
     tell_by(1, n, table);
     tell_by(2, n, table);
+    tell_by(3, n, table);
     tell_by(4294967295, n, table);
 }
 
@@ -1437,13 +1439,20 @@ fn joined(first: [i16; LONGEST], second: [i16; LONGEST], m: usize) -> [i16; LONG
     x
 }
 
-// Every third block goes by the short route, where it is offered.
+// Every third block goes by the short route, and every third by the double one, where they are offered.
 fn route_of(n: usize, b: usize) -> Route {
+    let kind = b % 3;
     if n > 72 {
         return Route::Direct;
     }
-    if b % 3 == 2 {
+    if kind == 2 {
         return Route::Short;
+    }
+    if n < 36 {
+        return Route::Direct;
+    }
+    if kind == 1 {
+        return Route::Double;
     }
     Route::Direct
 }

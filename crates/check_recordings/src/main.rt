@@ -58,6 +58,7 @@ fn show_route(route: Route) {
     match route {
         Route::Direct => report::word(b"direct"),
         Route::Short => report::word(b"short"),
+        Route::Double => report::word(b"double"),
     }
 }
 
@@ -361,6 +362,7 @@ fn ordered(order: Order, n: usize, hops: usize, l: usize, m: usize)
 {
     offer(Route::Direct, order, n, hops, l, m);
     offer(Route::Short, order, n, hops, l, m);
+    offer(Route::Double, order, n, hops, l, m);
     play(order, n, hops, with(0, 1), m, l);
     play(order, n, hops, with(0, BELOW), m, l);
 }
@@ -486,7 +488,7 @@ fn refused(n: usize, m: usize)
     limits(n, m);
 }
 
-// A length by the direct route, and by both.
+// A length by the direct route, by the short one too, and by all three.
 fn tabled(n: usize, m: usize)
     requires { ⌜ (n ≤ 216) × (1 ≤ m) × (m ≤ 108) ⌝ }
 {
@@ -499,6 +501,15 @@ fn tabled_twice(n: usize, m: usize)
 {
     recordings(Route::Direct, n, m);
     recordings(Route::Short, n, m);
+    refused(n, m);
+}
+
+fn tabled_thrice(n: usize, m: usize)
+    requires { ⌜ (n ≤ 216) × (1 ≤ m) × (m ≤ 108) ⌝ }
+{
+    recordings(Route::Direct, n, m);
+    recordings(Route::Short, n, m);
+    recordings(Route::Double, n, m);
     refused(n, m);
 }
 
@@ -519,8 +530,8 @@ fn untabled(n: usize, m: usize)
 fn main() {
     tabled_twice(12, 6);
     tabled_twice(24, 12);
-    tabled_twice(36, 18);
-    tabled_twice(72, 36);
+    tabled_thrice(36, 18);
+    tabled_thrice(72, 36);
     tabled(108, 54);
     tabled(216, 108);
     untabled(0, 0);

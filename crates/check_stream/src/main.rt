@@ -491,13 +491,20 @@ fn joined(first: [i16; LONGEST], second: [i16; LONGEST], m: usize) -> [i16; LONG
     x
 }
 
-// Every third block goes by the short route, where it is offered.
+// Every third block goes by the short route, and every third by the double one, where they are offered.
 fn route_of(n: usize, b: usize) -> Route {
+    let kind = b % 3;
     if n > 72 {
         return Route::Direct;
     }
-    if b % 3 == 2 {
+    if kind == 2 {
         return Route::Short;
+    }
+    if n < 36 {
+        return Route::Direct;
+    }
+    if kind == 1 {
+        return Route::Double;
     }
     Route::Direct
 }

@@ -25,6 +25,7 @@ pub fn is_offered(route: Route, n: usize) -> bool
     match route {
         Route::Direct => cosine::is_tabled(n),
         Route::Short => split::is_offered(n),
+        Route::Double => double_route::is_offered(n),
     }
 }
 

@@ -13,7 +13,7 @@ use Rattle.cosine.specs.Kernels.{tabled}
 use Rattle.stream.specs.declared.Stream.{Stream}
 use Rattle.stream.specs.Synthesis as S
 use Rattle.analysis.specs.declared.Route.{Route}
-use Rattle.analysis.specs.declared.Route.the-variants.{Direct, Short}
+use Rattle.analysis.specs.declared.Route.the-variants.{Direct, Short, Double}
 use Rattle.analysis.specs.Analysis.{offered, unitsOf}
 use Rattle.block_calls.specs.Analysis.{analyseCode, analyseOut}
 use Rattle.checks.specs.Limits.{tailLimit, coefficientLimit, hopLimit}
@@ -65,7 +65,7 @@ pub record Shapes (left right : ℕ) : Type 0 where
   pub left-is : left ≤ 1
   pub right-is : right ≤ 1
 
--- `analyse`, by either route
+-- `analyse`, by any route
 pub record AnalyseAnswers (route : Route) (N left right : ℕ) (x out : List ℤ) : Type 0 where
   pub one : ¬ Offered route N → analyseCode route N left right x out ≡ 1
   pub eight : Offered route N → ¬ Shapes left right → analyseCode route N left right x out ≡ 8
@@ -128,7 +128,7 @@ pub record StateStepAnswers (state : List ℤ) (number left right : ℕ) (x out 
   pub kept-state : stateCode state number left right x out ≢ 0 → stepState state number left right x out ≡ state
   pub kept : stateCode state number left right x out ≢ 0 → stateOut state number left right x out ≡ out
 
--- `analyse_recording`, by either route: H × M samples in, the (H + 1) × M coefficients of all blocks out, in either order
+-- `analyse_recording`, by any route: H × M samples in, the (H + 1) × M coefficients of all blocks out, in either order
 pub record RecordedAnswers (route : Route) (order : Order) (N H : ℕ) (x out : List ℤ) : Type 0 where
   pub one : ¬ Offered route N → recordedCode route N H x out ≡ 1
   pub two-hops : Offered route N → ¬ Counted H → recordedCode route N H x out ≡ 2
@@ -237,13 +237,14 @@ pub record ToldAnswers (route : Route) (N : ℕ) (text : List ℕ) : Type 0 wher
   pub table-own : Offered route N → ¬ Ruled N text → told route N text ≡ record { code = tableCode (N / 2) text; distance = 0 }
   pub taken : Offered route N → Ruled N text → told route N text ≡ record { code = 0; distance = (coarsest (N / 2) text / 2 + unitsOf route + 8) / 16 }
 
--- `tell`: the route by its number, any but 0 and 1 being one that is not offered, and room for one distance, tested last
+-- `tell`: the route by its number, any but 0, 1 and 2 being one that is not offered, and room for one distance, tested last
 pub data RouteNumber : ℕ → Route → Type 0 where
   direct : RouteNumber 0 Direct
   short : RouteNumber 1 Short
+  double : RouteNumber 2 Double
 
 pub record TellAnswers (number N : ℕ) (text room : List ℕ) : Type 0 where
-  pub one-number : 1 < number → tellNumber number N text room ≡ 1
+  pub one-number : 2 < number → tellNumber number N text room ≡ 1
   pub one : (route : Route) → RouteNumber number route → ¬ Offered route N → tellNumber number N text room ≡ 1
   pub table-own : (route : Route) → RouteNumber number route → Offered route N → ¬ Ruled N text → tellNumber number N text room ≡ tableCode (N / 2) text
   pub two : (route : Route) → RouteNumber number route → Offered route N → Ruled N text → length room ≢ 1 → tellNumber number N text room ≡ 2

@@ -115,7 +115,7 @@ pub back-one : (N H Q : ℕ) (routes : ℕ → Route) (x out : List ℤ) → Bac
 back-one N H Q routes x out back = record { back = back; each = λ i p. restored Q (routes (i / (N / 2))) (routes (suc (i / (N / 2)))) (back .near i p) (back .same i p) }
 
 -- ---- the theorems, each with what is proved beyond it
--- one call analysed the recording, by either route; a second, which returned 0, synthesised the changed coefficients
+-- one call analysed the recording, by any route; a second, which returned 0, synthesised the changed coefficients
 pub back-by-one-call : (N H : ℕ) (Q : ℕ → ℕ) (route : Route) (order : Order) (x X out : List ℤ) → ((i : ℕ) → i < length x → Sample (at x i)) → ByOneCall N H Q route order x X →
     playedCode N H X out ≡ 0 → Back N H Q (λ b. route) x (playedOut order N H X out) × SharperBack N H Q (λ b. route) x (playedOut order N H X out)
 unfolding analysis

@@ -24,12 +24,16 @@ use Rattle.split.specs.ShortRoute.{shortX, short, units}
 use Rattle.split.specs.ShortRoute as R
 use Rattle.split.specs.ShortLaws.{middle-exact, within-16}
 use Rattle.split.specs.ShortStepLaws.{short-ext}
+use Rattle.double_route.specs.Double as D
+use Rattle.double_route.specs.Double.{doubleX, double}
+use Rattle.double_route.specs.DoubleLaws.{double-ext}
+use Rattle.double_route.specs.NearLaws.{within-32}
 use Rattle.stream.specs.declared.Stream.{Stream}
 use Rattle.stream.specs.Steps.{hop, streamAfter, returned}
 use Rattle.cosine.specs.KernelLaws.{rising-size, falling-size}
 use Rattle.stream.specs.NextLaws.{Fine, hop-long, hop-at, next-n, next-expected, next-shape, next-at, next-kept, stream-expected, stream-shape, returned-long}
 use Rattle.analysis.specs.declared.Route.{Route}
-use Rattle.analysis.specs.declared.Route.the-variants.{Direct, Short}
+use Rattle.analysis.specs.declared.Route.the-variants.{Direct, Short, Double}
 use Rattle.analysis.specs.Analysis.{offered, coefficients}
 use Rattle.orders.specs.declared.Order.{Order}
 use Rattle.orders.specs.Orders.{part, laid}
@@ -55,7 +59,7 @@ use Rattle.page.specs.AnswerLaws.{Paged, page-facts, page-taken}
 use Rattle.demands.specs.MovedLaws.{levelled-on, restored-on, ruled-on}
 use Rattle.demands.specs.ExplainLaws.{explained-on, explained-in}
 use Rattle.demands.specs.StepLaws.{taken-stream, taken-buffer}
-use Rattle.demands.specs.RecordingLaws.{windowed, by-direct, by-short}
+use Rattle.demands.specs.RecordingLaws.{windowed, by-direct, by-short, by-double}
 use Rattle.demands.specs.Steps.{Offer, Turn, answered, run, turns, Entry}
 use Rattle.demands.specs.Steps.Entry.{first, later}
 use Rattle.demands.specs.RunLaws.{code, answered-code, no-entry}
@@ -130,8 +134,30 @@ module _ (N l r : ℕ) (x out : List ℤ) (k : ℕ) (p : k < N / 2) where
     short-exact : (i : ℕ) → k ≡ 3 * i + 1 → at (analyseOut Short N l r x out) k ≡ X N l r x k
     short-exact i f = short-at ∙ ap (shortX N (windowed N l r x)) f ∙ middle-exact N short-offered (windowed N l r x) i ∙ ap (A.X N (windowed N l r x)) (sym f) ∙ X-is N l r x k
 
+  module _ (e : analyseCode Double N l r x out ≡ 0) where
+    double-offered : T (D.offered N)
+    unfolding offered
+    double-offered = analysed-offered Double N l r x out e
+
+    double-at : at (analyseOut Double N l r x out) k ≡ doubleX N (windowed N l r x) k
+    double-at = rw (analysed-is Double N l r x out e) (by-double N l r x k p)
+
+    double-is : at (analyseOut Double N l r x out) k ≡ doubleX N (y N l r x) k
+    unfolding double
+    double-is =
+        double-at
+        ∙ sym (getD-table (doubleX N (windowed N l r x)) (pos 0) (N / 2) k p)
+        ∙ ap (λ (q : List ℤ). at q k) (double-ext N (windowed N l r x) (y N l r x) (λ n q. y-is N l r x n))
+        ∙ getD-table (doubleX N (y N l r x)) (pos 0) (N / 2) k p
+
+    double-near : ((n : ℕ) → n < N → Sample (at x n)) → natAbs (at (analyseOut Double N l r x out) k -ℤ X N l r x k) ≤ D.units
+    double-near samples =
+        rw (double-at, ← (X-is N l r x k))
+        (within-32 N double-offered (windowed N l r x)
+        (y-size N (rising l N) (falling r N) (part-of N (offered-tabled Double N (analysed-offered Double N l r x out e))) (λ n q. rising-size l N n) (λ n q. falling-size r N n) x (λ n q. sample-abs (samples n q))) k p)
+
   analysed : Analysed N l r x out k
-  analysed = record { direct = direct-is; short = short-is; near = short-near; exact = short-exact }
+  analysed = record { direct = direct-is; short = short-is; near = short-near; exact = short-exact; double = double-is; double-near = double-near }
 
 -- ---- one step
 stepped-on : (s : Stream) (number l r : ℕ) (x out : List ℤ) → stepCode s number l r x out ≡ 0 → Stepped-on s number l r x out

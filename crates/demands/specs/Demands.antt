@@ -15,9 +15,11 @@ use Rattle.arithmetic.specs.Sums.{sum}
 use Rattle.arithmetic.specs.Lists.{at}
 use Rattle.cosine.specs.Kernels.{W, rising, falling, K}
 use Rattle.split.specs.ShortRoute.{shortX, units}
+use Rattle.double_route.specs.Double as D
+use Rattle.double_route.specs.Double.{doubleX}
 use Rattle.stream.specs.declared.Stream.{Stream}
 use Rattle.analysis.specs.declared.Route.{Route}
-use Rattle.analysis.specs.declared.Route.the-variants.{Direct, Short}
+use Rattle.analysis.specs.declared.Route.the-variants.{Direct, Short, Double}
 use Rattle.orders.specs.declared.Order.{Order}
 use Rattle.orders.specs.Orders.{place, part, other}
 use Rattle.recording.specs.Recordings.{block}
@@ -46,7 +48,7 @@ use Rattle.demands.specs.Recordings.{ByOneCall, BlockByBlock, Back, Back
 use Rattle.demands.specs.Sparse.{SparseNumbered, SparseOnce, SparseBlocks, sparseDistance, SparselyReturned, SparselyBack}
 use Rattle.demands.specs.Answers.{Tabled, InRange, AnalyseAnswers, FreshAnswers, StepAnswers, StateFreshAnswers, StateStepAnswers, RecordedAnswers, PlayedAnswers, ReorderAnswers, NumberAnswers, InnerAnswers, PageAnswers, Ruled, TableAnswers, ShareAnswers, NameAnswers, RecordingShareAnswers, RecordingNameAnswers, QuantiseAnswers, DequantiseAnswers, ToldAnswers, TellAnswers, StepLevelsAnswers, StateStepLevelsAnswers, ReportAnswers, ListingAnswers}
 
--- ================ DEMAND 1: the whole work, or the numbered refusal of document 01, for recordings, pages, numbered blocks, joints, step tables, shares and orders as document 02, P1, P2, P6, P7, P8, P9 and P10, has it, at P4's six lengths, the short route at four, with stream and buffers as they were
+-- ================ DEMAND 1: the whole work, or the numbered refusal of document 01, for recordings, pages, numbered blocks, joints, step tables, shares and orders as document 02, P1, P2, P6, P7, P8, P9 and P10, has it, at P4's six lengths, the short route at four, the double route at two (P12), with stream and buffers as they were
 -- each call's record is in Answers: its number by the causes, and what a refusal leaves
 pub record Demand-1 : Type 0 where
   pub analyse : (route : Route) (N left right : ℕ) (x out : List ℤ) → AnalyseAnswers route N left right x out
@@ -77,7 +79,7 @@ pub record Demand-1 : Type 0 where
   pub stepped-levels : (s : Stream) (number left right : ℕ) (text : List ℕ) (levels out : List ℤ) → StepLevelsAnswers s number left right text levels out
   pub state-stepped-levels : (state : List ℤ) (number left right : ℕ) (text : List ℕ) (levels out : List ℤ) → StateStepLevelsAnswers state number left right text levels out
 
--- ================ DEMAND 2: every coefficient and every sample is document 01's with a turn of 864 parts (P4), halves going away from zero (P5; its sign rule is in Turned), with joints of two shapes (P7), of a recording between the two hops of zeros of document 02, P1, every byte of a page is P2's, levels and what comes back from them are P8's, and the largest share is P9's
+-- ================ DEMAND 2: every coefficient and every sample is document 01's with a turn of 864 parts (P4), halves going away from zero (P5; its sign rule is in Turned), with joints of two shapes (P7), of a recording between the two hops of zeros of document 02, P1, every byte of a page is P2's, levels and what comes back from them are P8's, the largest share is P9's, and the third route is P12's
 -- the window of a block with joints of the shapes left and right (P7): W(n) where both are long
 abbrev pub window : (N left right : ℕ) → ℕ → ℤ
 window N left right n = cond (ltb n (N / 2)) (rising left N n) (falling right N (n - N / 2))
@@ -102,6 +104,9 @@ pub record Analysed (N left right : ℕ) (x out : List ℤ) (k : ℕ) : Type 0 w
   pub near : analyseCode Short N left right x out ≡ 0 → ((n : ℕ) → n < N → Sample (at x n)) → natAbs (at (analyseOut Short N left right x out) k -ℤ X N left right x k) ≤ units
   -- .. and the coefficients 3i + 1 are the definition's
   pub exact : analyseCode Short N left right x out ≡ 0 → (i : ℕ) → k ≡ 3 * i + 1 → at (analyseOut Short N left right x out) k ≡ X N left right x k
+  -- the double route (P12) equals its own steps, and lies within 32 units of the definition
+  pub double : analyseCode Double N left right x out ≡ 0 → at (analyseOut Double N left right x out) k ≡ doubleX N (y N left right x) k
+  pub double-near : analyseCode Double N left right x out ≡ 0 → ((n : ℕ) → n < N → Sample (at x n)) → natAbs (at (analyseOut Double N left right x out) k -ℤ X N left right x k) ≤ D.units
 
 -- a step that was taken: the hop, one more expected, the right shape remembered, the new tail, and storage beyond M as it was
 pub record Stepped-on (s : Stream) (number left right : ℕ) (x out : List ℤ) : Type 0 where
@@ -325,7 +330,7 @@ pub record Sparse-kept : Type 0 where
   -- with one T for all blocks T stands there
   pub one : (N T : ℕ) → sparseDistance N T T ≡ (T + 4 * N) / (8 * N)
 
--- ================ BEYOND DEMAND 3: each sample within (3 Q + 36) / 64, equal where both its blocks have a Q up to 9, with Q + 7 for Q after the short route
+-- ================ BEYOND DEMAND 3: each sample within (3 Q + 36) / 64, equal where both its blocks have a Q up to 9, with Q + 7 for Q after the short route and Q + 14 after the double one
 pub record Beyond : Type 0 where
   pub list : (N : ℕ) → Tabled N → (H : ℕ) (Q : ℕ → ℕ) (routes : ℕ → Route) (x : List ℤ) → Recording N H x → (offers : List Offer) → Numbered N H Q routes x (turns N offers) →
       Sharper N Q routes x (turns N offers)
@@ -335,5 +340,5 @@ pub record Beyond : Type 0 where
       SharperBack N H Q (λ b. route) x (playedOut order N H c out)
   pub blocks : (N H : ℕ) (Q : ℕ → ℕ) (routes : ℕ → Route) (order : Order) (x c out : List ℤ) → Recording N H x → BlockByBlock N H Q routes order x c → playedCode N H c out ≡ 0 →
       SharperBack N H Q routes x (playedOut order N H c out)
-  -- with one Q for all blocks: Q stands there, and Q + 7 where one of the two took the short route
+  -- with one Q for all blocks: Q stands there, and Q + 7 where one of the two took the short route, Q + 14 where one took the double one
   pub one : (Q : ℕ) (r r′ : Route) → provedChange Q Q r r′ ≡ Q + max (provedUnits r) (provedUnits r′)

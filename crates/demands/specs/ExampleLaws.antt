@@ -18,6 +18,7 @@ use Rattle.cosine.specs.Cosine.{top, bottom, factorial, denominator, term, sign
 use Rattle.cosine.specs.Kernels.{lengths, tabled, W, shortRise, rising, falling, K, L, s, eB, fB, eC, fC, turned, shortLengths, shortTabled}
 use Rattle.transform.specs.Analysis.{window, y, S, X, direct}
 use Rattle.split.specs.ShortRoute as R
+use Rattle.double_route.specs.Double as D
 use Rattle.transform.specs.Synthesis.{U, V′}
 use Rattle.stream.specs.Synthesis as Y
 use Rattle.stream.specs.Synthesis.{storage}
@@ -68,7 +69,7 @@ unfolding floor rnd clamp sum table all every cosines analysis synthesis example
 computed = tt
 
 unfoldable pub answers : Unit {0}
-unfolding computed shortLengths shortTabled R.offered offered analyseCauses analyseCode analyseOut counted joined place blockAt coefficientAt part laid recordedCauses recordedCode recordedOut recordingOf playedCauses playedCode whole hops-room knock-whole sparse-whole
+unfolding computed shortLengths shortTabled R.offered D.offered offered analyseCauses analyseCode analyseOut counted joined place blockAt coefficientAt part laid recordedCauses recordedCode recordedOut recordingOf playedCauses playedCode whole hops-room knock-whole sparse-whole
 answers = tt
 
 -- the numbers that the steps return

@@ -19,7 +19,7 @@ use Rattle.text.specs.Number.{isNumber, value}
 use Rattle.stream.specs.declared.Stream.{Stream}
 use Rattle.stream.specs.Steps.{next, hop}
 use Rattle.analysis.specs.declared.Route.{Route}
-use Rattle.analysis.specs.declared.Route.the-variants.{Direct, Short}
+use Rattle.analysis.specs.declared.Route.the-variants.{Direct, Short, Double}
 use Rattle.checks.specs.Causes.{Cause, _unless_, First}
 use Rattle.checks.specs.Causes.First.{none, stop, pass}
 use Rattle.checks.specs.CauseLaws.{first-is, is-first, same, differs, beside}
@@ -41,7 +41,7 @@ use Rattle.demands.specs.LevelStepLaws.{levels-code, levels-step, brough
 use Rattle.demands.specs.MovedLaws.{dequantised-facts, dequantised-is, always-taken}
 use Rattle.demands.specs.CauseTestLaws.{ranges, ranges-not, sounds, sounds-not-n, sounds-not-tail, fits-true, fits-not, fits-other, fits-forged, negative, no-length-0, shape-negative, shape-large}
 use Rattle.demands.specs.Answers.{Tabled, Offered, Ruled, SoundTail, Fitting, QuantiseAnswers, DequantiseAnswers, ToldAnswers, RouteNumber, TellAnswers, Typed, ReportAnswers, StepLevelsAnswers, StateStepLevelsAnswers}
-use Rattle.demands.specs.Answers.RouteNumber.{direct, short}
+use Rattle.demands.specs.Answers.RouteNumber.{direct, short, double}
 
 pub quantise-answers : (N : ℕ) (text : List ℕ) (x levels : List ℤ) → QuantiseAnswers N text x levels
 unfolding quantiseCauses quantiseCode quantiseOut
@@ -86,6 +86,7 @@ by-route : {number : ℕ} {route : Route} (N : ℕ) (text room : List ℕ) → R
 unfolding tellNumber tellNumberOut
 by-route N text room direct = (refl, refl)
 by-route N text room short = (refl, refl)
+by-route N text room double = (refl, refl)
 
 pub tell-answers : (number N : ℕ) (text room : List ℕ) → TellAnswers number N text room
 unfolding tellNumber tellNumberOut tellOut
@@ -98,8 +99,8 @@ tell-answers number N text room = record {
   kept = left number;
 }
   where
-    no-route : (number : ℕ) → 1 < number → tellNumber number N text room ≡ 1
-    no-route number h = rw (ne-eqb number 0 (λ (e : number ≡ 0). omega (arith, e, h)), ne-eqb number 1 (λ (e : number ≡ 1). omega (arith, e, h)))
+    no-route : (number : ℕ) → 2 < number → tellNumber number N text room ≡ 1
+    no-route number h = rw (ne-eqb number 0 (λ (e : number ≡ 0). omega (arith, e, h)), ne-eqb number 1 (λ (e : number ≡ 1). omega (arith, e, h)), ne-eqb number 2 (λ (e : number ≡ 2). omega (arith, e, h)))
 
     refused : (route : Route) {k : ℕ} → RouteNumber number route → told route N text ≡ record { code = k; distance = 0 } → k ≢ 0 → tellNumber number N text room ≡ k
     refused route r e n = by-route N text room r .0 ∙ sym (tell-refused route N text room (ap (λ (q : Told). q .code) e) n .0)
@@ -110,7 +111,8 @@ tell-answers number N text room = record {
     left : (number : ℕ) → tellNumber number N text room ≢ 0 → tellNumberOut number N text room ≡ room
     left zero n = code-other (tellCode Direct N text room) (distance Direct N text ∷ []) room n
     left (suc zero) n = code-other (tellCode Short N text room) (distance Short N text ∷ []) room n
-    left (suc (suc k)) n = rw (ne-eqb (suc (suc k)) 0 (λ e. omega (arith, e)), ne-eqb (suc (suc k)) 1 (λ e. omega (arith, e)))
+    left (suc (suc zero)) n = code-other (tellCode Double N text room) (distance Double N text ∷ []) room n
+    left (suc (suc (suc k))) n = rw (ne-eqb (suc (suc (suc k))) 0 (λ e. omega (arith, e)), ne-eqb (suc (suc (suc k))) 1 (λ e. omega (arith, e)), ne-eqb (suc (suc (suc k))) 2 (λ e. omega (arith, e)))
 
 -- what the command step-table prints
 typed-length : (number : List ℕ) (N : ℕ) → Typed number N → lengthOf number ≡ N

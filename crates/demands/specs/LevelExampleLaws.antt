@@ -1,5 +1,5 @@
 -- Blocks that are stored as levels, at N = 12: two step tables, a recording of one hop whose blocks are stored by them, with a short joint between them, and lists that bring them, by levels and by
--- the coefficients that come back, refused steps among it; and the same recording, with long joints, for the calls over whole recordings. The theorems applied to them, and the told distances.
+-- the coefficients that come back, refused steps among it; and the same recording, with long joints, for the calls over whole recordings. The theorems applied to them, and the told distances, that of the double route at N = 36.
 -- All is computed from the definitions.
 use mathlib.Core.Path.{_≡_, refl}
 use mathlib.Core.List.{List, [], _∷_, _++_}
@@ -10,7 +10,7 @@ use lib.ListN.{length}
 use lib.IntN.{ℤ, pos, natAbs, _-ℤ_}
 use Rattle.arithmetic.specs.Lists.{at}
 use Rattle.analysis.specs.declared.Route.{Route}
-use Rattle.analysis.specs.declared.Route.the-variants.{Direct, Short}
+use Rattle.analysis.specs.declared.Route.the-variants.{Direct, Short, Double}
 use Rattle.analysis.specs.Analysis.{coefficients, unitsOf}
 use Rattle.orders.specs.declared.Order.the-variants.{ByBlock}
 use Rattle.orders.specs.Orders.{part}
@@ -23,7 +23,7 @@ use Rattle.recording_calls.specs.Recordings.{playedCode, playedOut, recordedCod
 use Rattle.block_calls.specs.Analysis.{analyseCode, analyseOut}
 use Rattle.steps.specs.Table.{bounded, numbersOf, rowOf, malformed, joints, byLines, verdict, stepIn, stepAt, larger, coarsestIn, coarsest}
 use Rattle.levels.specs.Levels.{level, clipped, back, levelled, restored}
-use Rattle.level_calls.specs.LevelCalls.{levelsBy, backBy, quantiseCauses, quantiseCode, quantiseOut, dequantiseCauses, dequantiseCode, dequantiseOut, toldCauses, toldCode, half, distance, told, stepCauses, stepCode, stepLevels, stepOut}
+use Rattle.level_calls.specs.LevelCalls.{levelsBy, backBy, quantiseCauses, quantiseCode, quantiseOut, dequantiseCauses, dequantiseCode, dequantiseOut, toldCauses, toldCode, half, distance, told, tellCode, tellOut, tellNumber, tellNumberOut, stepCauses, stepCode, stepLevels, stepOut}
 use Rattle.demands.specs.Steps.{Offer, Turn, Entry, taken, turns, final, offers-of}
 use Rattle.demands.specs.Steps.Entry.{first, later}
 use Rattle.demands.specs.RunLaws.{no-entry, entry-offer}
@@ -204,7 +204,7 @@ played : playedCode 12 1 long-both room ≡ 0
 unfolding stored
 played = refl
 
--- the coefficients of the two blocks, by either route, and by one call
+-- the coefficients of the two blocks, each by its own route, and by one call
 analysed-0 : (analyseCode Direct 12 0 0 (block 12 knock 0) room ≡ 0) × (analyseOut Direct 12 0 0 (block 12 knock 0) room ≡ plain-0)
 unfolding stored
 analysed-0 = (refl, refl)
@@ -255,3 +255,25 @@ once-kept =
 pub told-3 : told (farther Direct Direct) 12 (coarser 12 (tables 0) (tables 1)) ≡ record { code = 0; distance = 3 }
 unfolding stored coarser farther
 told-3 = refl
+
+-- ---- by the double route (P12) at N = 36, of a table whose largest step is 100: (50 + 32 + 8) / 16. It tells more than the short one; for C it is route 2, and no route has the number 3
+pub told-5 : told Double 36 (ascii "0,17,100\n") ≡ record { code = 0; distance = 5 }
+unfolding stored
+told-5 = refl
+
+pub double-tells-more : (farther Short Double ≡ Double) × (farther Double Short ≡ Double)
+unfolding farther unitsOf
+double-tells-more = (refl, refl)
+
+pub route-2 : (tellNumber 2 36 (ascii "0,17,100\n") (7 ∷ []) ≡ 0) × (tellNumberOut 2 36 (ascii "0,17,100\n") (7 ∷ []) ≡ 5 ∷ [])
+unfolding stored tellCode tellOut tellNumber tellNumberOut
+route-2 = (refl, refl)
+
+pub route-3 : (N : ℕ) (text room : List ℕ) → (tellNumber 3 N text room ≡ 1) × (tellNumberOut 3 N text room ≡ room)
+unfolding tellNumber tellNumberOut
+route-3 N text room = (refl, refl)
+
+-- at N = 12 it is refused with 1, whatever the table
+pub not-told-at-12 : (text : List ℕ) → told Double 12 text ≡ record { code = 1; distance = 0 }
+unfolding stored
+not-told-at-12 text = refl

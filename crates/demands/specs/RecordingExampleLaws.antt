@@ -1,23 +1,26 @@
--- The theorems `back-block-by-block`, `back-by-one-call` and `back-one` applied to the recordings of Example; short halves; a recording at N = 216; the sign rule; and pages, printed and read back. All
+-- The theorems `back-block-by-block`, `back-by-one-call` and `back-one` applied to the recordings of Example; short halves; a recording at N = 216; one at N = 72, by the double route; the sign rule; and pages, printed and read back. All
 -- is computed from the definitions.
 use mathlib.Core.Path.{_≡_, refl}
-use mathlib.Core.Bool.{cond}
+use mathlib.Core.Bool.{true, cond}
 use mathlib.Core.List.{List, [], _∷_, _++_}
-use Prim.Native.Nat.{ℕ, _+_, _*_, _%_, _≤_, _<_}
+use Prim.Native.Nat.{ℕ, zero, suc, _*_, _%_, _≤_, _<_}
+use native.Mathlib.Nat.{div-eq-of-lt}
 use native.Mathlib.Omega.{arith}
 use lib.Dec.{T, eqb, eqb→eq, leb, leb→le, lit<, lit≤}
 use lib.ListN.{length, getD, take, replicate}
 use lib.IntN.{ℤ, pos, natAbs, _-ℤ_}
 use Rattle.arithmetic.specs.Lists.{at, table, all}
 use Rattle.arithmetic.specs.TestLaws.{all-at}
-use Rattle.cosine.specs.Kernels.{rising, falling}
+use Rattle.cosine.specs.Kernels.{tabled, rising, falling}
 use Rattle.transform.specs.Analysis.{y}
-use Rattle.analysis.specs.declared.Route.the-variants.{Direct, Short}
-use Rattle.analysis.specs.Analysis.{offered}
+use Rattle.analysis.specs.declared.Route.{Route}
+use Rattle.analysis.specs.declared.Route.the-variants.{Direct, Short, Double}
+use Rattle.analysis.specs.Analysis.{offered, unitsOf}
 use Rattle.orders.specs.declared.Order.{Order}
 use Rattle.orders.specs.declared.Order.the-variants.{ByBlock, ByFrequency}
-use Rattle.orders.specs.Orders.{place}
+use Rattle.orders.specs.Orders.{place, laid}
 use Rattle.recording.specs.Recordings.{block}
+use Rattle.checks.specs.Limits.{counted}
 use Rattle.block_calls.specs.Analysis.{analyseCode, analyseOut}
 use Rattle.recording_calls.specs.Recordings.{recordedCode, recordedOut, playedCode, playedOut}
 use Rattle.text.specs.Bytes.{ascii, blank}
@@ -25,15 +28,16 @@ use Rattle.text.specs.Number.{digitsBy, decimal, printed}
 use Rattle.text.specs.Lines.{lines}
 use Rattle.text.specs.Columns.{aligned}
 use Rattle.page.specs.Page.{margin, columns, pageOf, pageCauses, pageCode, pageOut, numberIn}
-use Rattle.demands.specs.Steps.{taken}
-use Rattle.demands.specs.Recordings.{ByOneCall, BlockByBlock, Back, BackOneQ}
+use Rattle.demands.specs.Steps.{taken, Recording, change, provedUnits, provedChange}
+use Rattle.demands.specs.Recordings.{ByOneCall, BlockByBlock, Back, BackOneQ, SharperBack}
 use Rattle.demands.specs.AnswerLaws.{demand-1}
 use Rattle.demands.specs.DefinitionLaws.{demand-2}
 use Rattle.demands.specs.OrderLaws.{either-order}
+use Rattle.demands.specs.RecordingLaws.{block-sample}
 use Rattle.demands.specs.BackLaws.{back-one, back-by-one-call, back-block-by-block}
-use Rattle.demands.specs.UnchangedLaws.{unchanged-taken, unchanged-back}
+use Rattle.demands.specs.UnchangedLaws.{unchanged-taken, unchanged-near, unchanged-sharper, unchanged-back, each-taken, each-back}
 use Rattle.demands.specs.Answers.{Shapes}
-use Rattle.demands.specs.Demands.{Played-on, Alike}
+use Rattle.demands.specs.Demands.{X, Played-on, Alike}
 use Rattle.demands.specs.Turned.{opposite}
 use Rattle.demands.specs.TurnLaws.{sign-rule}
 use Rattle.demands.specs.Example.{minus, recording, routes, knock, room, whole, hops-room, knock-whole}
@@ -109,18 +113,114 @@ unfolding answers ramp
 ramp-analysed = refl
 
 pub ramp-played : (out : List ℤ) → length out ≡ 108 → playedCode 216 1 (recordedOut Direct ByFrequency 216 1 ramp (replicate 216 (pos 9))) out ≡ 0
-ramp-played = unchanged-taken ByFrequency 216 1 ramp (replicate 216 (pos 9)) (samples-of ramp ramp-samples) ramp-analysed
+ramp-played = unchanged-taken Direct ByFrequency 216 1 ramp (replicate 216 (pos 9)) (samples-of ramp ramp-samples) ramp-analysed
 
 pub ramp-back : (out : List ℤ) → length out ≡ 108 → playedOut ByFrequency 216 1 (recordedOut Direct ByFrequency 216 1 ramp (replicate 216 (pos 9))) out ≡ ramp
 ramp-back = unchanged-back ByFrequency 216 1 ramp (replicate 216 (pos 9)) (samples-of ramp ramp-samples) ramp-analysed
 
--- with its sign turned it has the turned coefficients
+-- ---- a recording of one hop at N = 72, by the double route (P12): its coefficients are taken as they are, and each sample comes back up to 2, which is (32 + 8) / 16
+pub slope : List ℤ
+slope = table 36 (λ i. minus (900 * i))
+
+slope-samples : T (all (length slope) (λ i. is-sample (at slope i)))
+unfolding computed is-sample slope
+slope-samples = tt
+
+pub slope-analysed : recordedCode Double 72 1 slope (replicate 72 (pos 9)) ≡ 0
+unfolding answers slope
+slope-analysed = refl
+
+pub slope-played : (out : List ℤ) → length out ≡ 36 → playedCode 72 1 (recordedOut Double ByBlock 72 1 slope (replicate 72 (pos 9))) out ≡ 0
+slope-played = unchanged-taken Double ByBlock 72 1 slope (replicate 72 (pos 9)) (samples-of slope slope-samples) slope-analysed
+
+pub slope-back : (out : List ℤ) → length out ≡ 36 → (i : ℕ) → i < 36 →
+    natAbs (at (playedOut ByBlock 72 1 (recordedOut Double ByBlock 72 1 slope (replicate 72 (pos 9))) out) i -ℤ at slope i) ≤ 2
+unfolding change unitsOf
+slope-back out l i p = unchanged-near Double ByBlock 72 1 slope (replicate 72 (pos 9)) (samples-of slope slope-samples) slope-analysed out l .near i p
+
+-- in fact up to 1, which is (3 × 14 + 36) / 64: 14 units are proved
+pub slope-sharper : (out : List ℤ) → length out ≡ 36 → (i : ℕ) → i < 36 →
+    natAbs (at (playedOut ByBlock 72 1 (recordedOut Double ByBlock 72 1 slope (replicate 72 (pos 9))) out) i -ℤ at slope i) ≤ 1
+unfolding provedChange provedUnits
+slope-sharper out l i p = unchanged-sharper Double ByBlock 72 1 slope (replicate 72 (pos 9)) (samples-of slope slope-samples) slope-analysed out l .near i p
+
+slope-recorded : Recording 72 1 slope
+slope-recorded = record { hops = lit≤ tt; long = unfold computed slope in refl; sample = samples-of slope slope-samples }
+
+seventy-two : T (tabled 72)
+unfolding computed
+seventy-two = tt
+
+-- its last block, with a short joint on its left: each coefficient lies within 32 units of the definition's
+last-taken : analyseCode Double 72 1 0 (block 72 slope 1) (replicate 36 (pos 9)) ≡ 0
+unfolding answers slope
+last-taken = refl
+
+pub slope-near : (k : ℕ) → k < 36 → natAbs (at (analyseOut Double 72 1 0 (block 72 slope 1) (replicate 36 (pos 9))) k -ℤ X 72 1 0 (block 72 slope 1) k) ≤ 32
+slope-near k p = demand-2 .coefficient 72 1 0 (block 72 slope 1) (replicate 36 (pos 9)) k p .double-near last-taken (block-sample 72 seventy-two 1 slope slope-recorded 1)
+
+-- analysed block by block, block 0 by the double route and block 1 by the short one, each sample comes back up to 2, and in fact up to 1
+unfoldable pub double-first : ℕ → Route
+double-first zero = Double
+double-first (suc b) = Short
+
+double-first-taken : (b : ℕ) → b ≤ 1 → analyseCode (double-first b) 72 0 0 (block 72 slope b) (replicate 36 (pos 9)) ≡ 0
+double-first-taken zero p = unfold answers slope double-first in refl
+double-first-taken (suc zero) p = unfold answers slope double-first in refl
+double-first-taken (suc (suc b)) p = absurd (omega (arith, p))
+
+-- their coefficients, one block after the other
+abbrev pub double-and-short : List ℤ
+double-and-short = laid ByBlock 36 2 (λ b. analyseOut (double-first b) 72 0 0 (block 72 slope b) (replicate 36 (pos 9)))
+
+one-hop : counted 1 ≡ true
+unfolding counted
+one-hop = refl
+
+pub double-and-short-played : (out : List ℤ) → length out ≡ 36 → playedCode 72 1 double-and-short out ≡ 0
+double-and-short-played = each-taken double-first ByBlock 72 1 slope (λ b. replicate 36 (pos 9)) slope-recorded one-hop double-first-taken
+
+abbrev double-and-short-both : (out : List ℤ) → length out ≡ 36 →
+    Back 72 1 (λ b. 0) double-first slope (playedOut ByBlock 72 1 double-and-short out) × SharperBack 72 1 (λ b. 0) double-first slope (playedOut ByBlock 72 1 double-and-short out)
+double-and-short-both = each-back double-first ByBlock 72 1 slope (λ b. replicate 36 (pos 9)) slope-recorded one-hop double-first-taken
+
+pub double-and-short-back : (out : List ℤ) → length out ≡ 36 → (i : ℕ) → i < 36 → natAbs (at (playedOut ByBlock 72 1 double-and-short out) i -ℤ at slope i) ≤ 2
+unfolding change unitsOf double-first
+double-and-short-back out l i p = rw (div-eq-of-lt p) at (double-and-short-both out l .0 .near i p)
+
+pub double-and-short-sharper : (out : List ℤ) → length out ≡ 36 → (i : ℕ) → i < 36 → natAbs (at (playedOut ByBlock 72 1 double-and-short out) i -ℤ at slope i) ≤ 1
+unfolding provedChange provedUnits double-first
+double-and-short-sharper out l i p = rw (div-eq-of-lt p) at (double-and-short-both out l .1 .near i p)
+
+-- short beside double: the larger units stand for both
+pub short-beside-double : change 0 0 Short Double ≡ 32
+unfolding change unitsOf
+short-beside-double = refl
+
+-- where the double route is not offered it is refused with 1, whatever the buffers' lengths are
+pub double-at-24 : (x out : List ℤ) → analyseCode Double 24 0 2 x out ≡ 1
+unfolding answers
+double-at-24 x out = refl
+
+pub double-at-12 : (H : ℕ) (x out : List ℤ) → recordedCode Double 12 H x out ≡ 1
+unfolding answers
+double-at-12 H x out = refl
+
+-- ---- with its sign turned the ramp has the turned coefficients
 turned-taken : recordedCode Direct 216 1 (opposite ramp) (replicate 216 (pos 9)) ≡ 0
 unfolding answers ramp opposite
 turned-taken = refl
 
 pub ramp-turned : recordedOut Direct ByFrequency 216 1 (opposite ramp) (replicate 216 (pos 9)) ≡ opposite (recordedOut Direct ByFrequency 216 1 ramp (replicate 216 (pos 9)))
 ramp-turned = sign-rule .recorded Direct ByFrequency 216 1 ramp (replicate 216 (pos 9)) (replicate 216 (pos 9)) ramp-analysed turned-taken
+
+-- the slope too, by the double route
+slope-turned-taken : recordedCode Double 72 1 (opposite slope) (replicate 72 (pos 9)) ≡ 0
+unfolding answers slope opposite
+slope-turned-taken = refl
+
+pub slope-turned : recordedOut Double ByBlock 72 1 (opposite slope) (replicate 72 (pos 9)) ≡ opposite (recordedOut Double ByBlock 72 1 slope (replicate 72 (pos 9)))
+slope-turned = sign-rule .recorded Double ByBlock 72 1 slope (replicate 72 (pos 9)) (replicate 72 (pos 9)) slope-analysed slope-turned-taken
 
 -- and so has a block by the short route: its own coefficients, and those of the turned block
 pub twelve-samples : List ℤ

@@ -17,6 +17,8 @@ use Rattle.cosine.specs.Kernels.{tabled, rising, falling}
 use Rattle.cosine.specs.LengthLaws.{length-of, Part, part-of}
 use Rattle.transform.specs.Analysis.{y, X, direct}
 use Rattle.split.specs.ShortRoute.{shortX, short}
+use Rattle.double_route.specs.Double.{doubleX, double}
+use Rattle.double_route.specs.NearLaws.{within-14}
 use Rattle.transform.specs.Synthesis.{V′}
 use Rattle.transform.specs.SizeLaws.{y-size}
 use Rattle.split.specs.ShortLaws.{within-7}
@@ -25,7 +27,7 @@ use Rattle.reconstruction.specs.Neighbours.{Neighbours}
 use Rattle.reconstruction.specs.ReturnLaws.{by-asked}
 use Rattle.reconstruction.specs.DistanceLaws.{joint-neighbours, returned-each, returned-same}
 use Rattle.analysis.specs.declared.Route.{Route}
-use Rattle.analysis.specs.declared.Route.the-variants.{Direct, Short}
+use Rattle.analysis.specs.declared.Route.the-variants.{Direct, Short, Double}
 use Rattle.analysis.specs.Analysis.{offered, spectrum, coefficients, unitsOf}
 use Rattle.recording.specs.Recordings.{padded, block}
 use Rattle.recording.specs.BlockLaws.{padded-at, padded-each, block-at}
@@ -44,6 +46,7 @@ units-asked : (r : Route) → provedUnits r ≤ unitsOf r
 unfolding provedUnits unitsOf
 units-asked Direct = omega arith
 units-asked Short = omega arith
+units-asked Double = omega arith
 
 pub change-asked : (Q Q′ : ℕ) (r r′ : Route) → provedChange Q Q′ r r′ ≤ change Q Q′ r r′
 unfolding provedChange change
@@ -87,12 +90,18 @@ module _ (N l r : ℕ) (x : List ℤ) (k : ℕ) (p : k < N / 2) where
   unfolding coefficients spectrum short
   by-short = getD-table (shortX N (windowed N l r x)) (pos 0) (N / 2) k p
 
+  pub by-double : at (coefficients Double N l r x) k ≡ doubleX N (windowed N l r x) k
+  unfolding coefficients spectrum double
+  by-double = getD-table (doubleX N (windowed N l r x)) (pos 0) (N / 2) k p
+
 pub near-direct : (N l r : ℕ) (x : List ℤ) → ((n : ℕ) → n < N → natAbs (windowed N l r x n) ≤ 2 ^ 23) →
     (Q : ℕ) (route : Route) → T (offered route N) → (c : ℤ) (k : ℕ) → k < N / 2 → natAbs (c -ℤ at (coefficients route N l r x) k) ≤ Q → natAbs (c -ℤ X N (windowed N l r x) k) ≤ Q + provedUnits route
 unfolding provedUnits offered
 near-direct N l r x y≤ Q Direct o c k p h = omega (arith, rw (by-direct N l r x k p) at h)
 near-direct N l r x y≤ Q Short o c k p h =
     abs-via c (shortX N (windowed N l r x) k) (X N (windowed N l r x) k) (rw (by-short N l r x k p) at h) (within-7 N o (windowed N l r x) y≤ k p)
+near-direct N l r x y≤ Q Double o c k p h =
+    abs-via c (doubleX N (windowed N l r x) k) (X N (windowed N l r x) k) (rw (by-double N l r x k p) at h) (within-14 N o (windowed N l r x) y≤ k p)
 
 module _ (N : ℕ) (t : T (tabled N)) (H : ℕ) (x : List ℤ) (rec : Recording N H x) where
   len : Part N

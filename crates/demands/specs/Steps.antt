@@ -13,7 +13,7 @@ use Rattle.arithmetic.specs.Rounding.{Sample}
 use Rattle.stream.specs.Synthesis.{storage}
 use Rattle.stream.specs.declared.Stream.{Stream}
 use Rattle.analysis.specs.declared.Route.{Route}
-use Rattle.analysis.specs.declared.Route.the-variants.{Direct, Short}
+use Rattle.analysis.specs.declared.Route.the-variants.{Direct, Short, Double}
 use Rattle.stream_calls.specs.declared.Stepped.{Stepped}
 use Rattle.analysis.specs.Analysis.{offered, coefficients, unitsOf}
 use Rattle.recording.specs.Recordings.{block}
@@ -146,7 +146,7 @@ pub record WholeReturned (N H : ℕ) (Q : ℕ → ℕ) (routes : ℕ → Route) 
 
 -- ---- the claim in document 01's words, with one Q for all blocks: λ b. Q in the records above
 -- of a sample that two blocks cover, analysed by the routes r and r′: z, which comes back in the place of a, is within (Q + 8) / 16 of it, with Q + 16 for Q where one
--- of the routes is the short one; up to Q = 7 and by direct routes it is a
+-- of the routes is the short one, and Q + 32 where one is the double one (P12); up to Q = 7 and by direct routes it is a
 pub record Restored (Q : ℕ) (r r′ : Route) (z a : ℤ) : Type 0 where
   pub near : natAbs (z -ℤ a) ≤ (Q + max (unitsOf r) (unitsOf r′) + 8) / 16
   pub same : Q ≤ 7 → r ≡ Direct → r′ ≡ Direct → z ≡ a
@@ -159,10 +159,11 @@ pub record ReturnedOneQ (N H Q : ℕ) (routes : ℕ → Route) (x : List ℤ) (u
   pub whole : length (taken us) ≡ H + 1 → (i : ℕ) → i < H * (N / 2) → (t : Turn) × Entry (taken us) (suc (i / (N / 2))) t × (t .offer .number ≡ suc (i / (N / 2))) ×
       Restored Q (routes (i / (N / 2))) (routes (suc (i / (N / 2)))) (at (t .output) (i % (N / 2))) (at x i)
 
--- ---- beyond what is asked, of the same list: (3 Q + 36) / 64, equal where both blocks have a Q up to 9, and 7 units for the short route
+-- ---- beyond what is asked, of the same list: (3 Q + 36) / 64, equal where both blocks have a Q up to 9, with 7 units for the short route and 14 for the double one
 unfoldable pub provedUnits : Route → ℕ
 provedUnits Direct = 0
 provedUnits Short = 7
+provedUnits Double = 14
 
 unfoldable pub provedChange : (Q Q′ : ℕ) → Route → Route → ℕ
 provedChange Q Q′ r r′ = max (Q + provedUnits r) (Q′ + provedUnits r′)

@@ -1,6 +1,6 @@
 -- Laws of signs: every stage of analysis turns its sign with its input's, since rnd does. The theorem `sign-rule`.
 use mathlib.Core.Path.{_≡_, refl, sym, ap, ap₂, _∙_}
-use mathlib.Core.Bool.{Bool, true, false, cond}
+use mathlib.Core.Bool.{cond}
 use mathlib.Core.Logic.{⊎-elim}
 use mathlib.Core.List.{List, [], _∷_, _++_}
 use Prim.Native.Nat.{ℕ, zero, suc, _+_, _-_, _*_, _/_, _%_, _^_, _<_}
@@ -10,18 +10,20 @@ use lib.ListN.{length, take, drop, replicate}
 use lib.IntN.{ℤ, pos, negℤ, _+ℤ_, _-ℤ_, _*ℤ_}
 use lib.Signed.{_≤ℤ_, _<ℤ_}
 use Rattle.arithmetic.specs.Rounding.{rnd, least, largest, Sample}
-use Rattle.arithmetic.specs.Sums.{sum}
 use Rattle.arithmetic.specs.Lists.{at, table}
 use Rattle.arithmetic.specs.IntegerLaws.{ints}
 use Rattle.arithmetic.specs.OrderLaws.{<ℤ-≤ℤ, ≤ℤ-antisym}
-use Rattle.arithmetic.specs.RoundingLaws.{rnd-neg}
-use Rattle.arithmetic.specs.SumLaws.{sum-ext, sum-neg}
+use Rattle.arithmetic.specs.RingLaws.{*ℤ-negℤ}
 use Rattle.arithmetic.specs.ListLaws.{table-ext}
-use Rattle.cosine.specs.Kernels.{K, L, eB, fB, eC, fC, turned, rising, falling}
+use Rattle.cosine.specs.Kernels.{L, rising, falling}
 use Rattle.transform.specs.Analysis.{window, y, S, X, direct}
 use Rattle.split.specs.ShortRoute as R
+use Rattle.split.specs.Parts.{middle, turnedC}
+use Rattle.split.specs.SignLaws.{cond-neg, plus-neg, minus-neg, rnd-turn, sum-turn, S-turn, middle-turn, rB-turn, turnedC-turn}
+use Rattle.double_route.specs.Double.{doubleX, double}
+use Rattle.double_route.specs.DoubleSignLaws.{doubleX-turn}
 use Rattle.analysis.specs.declared.Route.{Route}
-use Rattle.analysis.specs.declared.Route.the-variants.{Direct, Short}
+use Rattle.analysis.specs.declared.Route.the-variants.{Direct, Short, Double}
 use Rattle.analysis.specs.Analysis.{spectrum, coefficients}
 use Rattle.recording.specs.Recordings.{silence, padded, standing, block, analysis}
 use Rattle.block_calls.specs.AnalysisLaws.{analyse-taken}
@@ -29,21 +31,6 @@ use Rattle.orders.specs.declared.Order.{Order}
 use Rattle.orders.specs.Orders.{blockAt, coefficientAt, laid}
 use Rattle.recording_calls.specs.RecordingLaws.{recorded-taken}
 use Rattle.demands.specs.Turned.{opposite, Sign-rule}
-
--- ---- numbers
-mul-neg : (a b : ℤ) → a *ℤ negℤ b ≡ negℤ (a *ℤ b)
-mul-neg a b = simp ints (omega arith)
-
-cond-neg : (t : Bool) (a b : ℤ) → cond t (negℤ a) (negℤ b) ≡ negℤ (cond t a b)
-cond-neg true a b = refl
-cond-neg false a b = refl
-
--- a rounded number, from its turned number
-rnd-turn : (b : ℕ) → 0 < b → (z z′ : ℤ) → z′ ≡ negℤ z → rnd z′ b ≡ negℤ (rnd z b)
-rnd-turn b p z z′ e = ap (λ (w : ℤ). rnd w b) e ∙ rnd-neg z p
-
-sum-turn : (n : ℕ) (f g : ℕ → ℤ) → ((i : ℕ) → g i ≡ negℤ (f i)) → sum n g ≡ negℤ (sum n f)
-sum-turn n f g h = sum-ext n g (λ i. negℤ (f i)) (λ i p. h i) ∙ sum-neg n f
 
 -- ---- lists
 opposite-length : (xs : List ℤ) → length (opposite xs) ≡ length xs
@@ -88,74 +75,29 @@ y-turn : (N : ℕ) (left right : ℕ → ℤ) (x : List ℤ) (n : ℕ) → y N l
 unfolding y
 y-turn N left right x n =
     let w = window N left right n in
-    rnd-turn (2 ^ 18) (lit< tt) (w *ℤ at x n) (w *ℤ at (opposite x) n) (ap (λ (z : ℤ). w *ℤ z) (opposite-at x n) ∙ mul-neg w (at x n))
+    rnd-turn (2 ^ 18) (lit< tt) (w *ℤ at x n) (w *ℤ at (opposite x) n) (ap (λ (z : ℤ). w *ℤ z) (opposite-at x n) ∙ *ℤ-negℤ w (at x n))
 
--- ---- both routes, from a turned windowed block
+-- ---- each route, from a turned windowed block
 module _ (N : ℕ) (u v : ℕ → ℤ) (t : (n : ℕ) → v n ≡ negℤ (u n)) where
   X-turn : (k : ℕ) → X N v k ≡ negℤ (X N u k)
-  unfolding X S
-  X-turn k =
-      rnd-turn (2 ^ 28) (lit< tt) (sum N (λ n. u n *ℤ K N n k)) (sum N (λ n. v n *ℤ K N n k))
-      (sum-turn N (λ n. u n *ℤ K N n k) (λ n. v n *ℤ K N n k) (λ n. rw (t n) (neg-mul (u n) (K N n k))))
-    where
-      neg-mul : (a b : ℤ) → negℤ a *ℤ b ≡ negℤ (a *ℤ b)
-      neg-mul a b = simp ints (omega arith)
-
-  e-turn : (n : ℕ) → R.e N v n ≡ negℤ (R.e N u n)
-  unfolding R.e R.a R.b R.c
-  e-turn n = rw (t (N / 3 - 1 - n), t (2 * N / 3 - 1 - n), t (N - 1 - n)) (go (u (N / 3 - 1 - n)) (u (2 * N / 3 - 1 - n)) (u (N - 1 - n)))
-    where
-      go : (a b c : ℤ) → pos 2 *ℤ negℤ c -ℤ negℤ a +ℤ negℤ b ≡ negℤ (pos 2 *ℤ c -ℤ a +ℤ b)
-      go a b c = simp ints (omega arith)
-
-  f-turn : (n : ℕ) → R.f N v n ≡ negℤ (R.f N u n)
-  unfolding R.f R.a R.b
-  f-turn n = rw (t (N / 3 - 1 - n), t (2 * N / 3 - 1 - n)) (go (u (N / 3 - 1 - n)) (u (2 * N / 3 - 1 - n)))
-    where
-      go : (a b : ℤ) → negℤ a +ℤ negℤ b ≡ negℤ (a +ℤ b)
-      go a b = simp ints (omega arith)
-
-  rB-turn : (n : ℕ) → R.rB N v n ≡ negℤ (R.rB N u n)
-  unfolding R.rB
-  rB-turn n =
-      rnd-turn (2 ^ 26) (lit< tt) (R.e N u n *ℤ eB N n -ℤ R.f N u n *ℤ fB N n) (R.e N v n *ℤ eB N n -ℤ R.f N v n *ℤ fB N n)
-      (rw (e-turn n, f-turn n) (go (R.e N u n) (R.f N u n) (eB N n) (fB N n)))
-    where
-      go : (e f p q : ℤ) → negℤ e *ℤ p -ℤ negℤ f *ℤ q ≡ negℤ (e *ℤ p -ℤ f *ℤ q)
-      go e f p q = simp ints (omega arith)
-
-  rC-turn : (n : ℕ) → R.rC N v n ≡ negℤ (R.rC N u n)
-  unfolding R.rC
-  rC-turn n =
-      rnd-turn (2 ^ 26) (lit< tt) (R.e N u n *ℤ eC N n +ℤ R.f N u n *ℤ fC N n) (R.e N v n *ℤ eC N n +ℤ R.f N v n *ℤ fC N n)
-      (rw (e-turn n, f-turn n) (go (R.e N u n) (R.f N u n) (eC N n) (fC N n)))
-    where
-      go : (e f p q : ℤ) → negℤ e *ℤ p +ℤ negℤ f *ℤ q ≡ negℤ (e *ℤ p +ℤ f *ℤ q)
-      go e f p q = simp ints (omega arith)
+  unfolding X
+  X-turn k = rnd-turn (2 ^ 28) (lit< tt) (S N u k) (S N v k) (S-turn N u v t k)
 
   A-turn : (k : ℕ) → R.A N v k ≡ negℤ (R.A N u k)
-  unfolding R.A R.a R.b R.c
+  unfolding R.A
   A-turn k =
-      sum-turn (N / 3) (λ n. L N n k *ℤ (R.a N u n -ℤ R.b N u n +ℤ R.c N u n)) (λ n. L N n k *ℤ (R.a N v n -ℤ R.b N v n +ℤ R.c N v n))
-      (λ n.
-      rw (t (N / 3 - 1 - n), t (2 * N / 3 - 1 - n), t (N - 1 - n)) (go (L N n k) (u (N / 3 - 1 - n)) (u (2 * N / 3 - 1 - n)) (u (N - 1 - n))))
-    where
-      go : (l a b c : ℤ) → l *ℤ (negℤ a -ℤ negℤ b +ℤ negℤ c) ≡ negℤ (l *ℤ (a -ℤ b +ℤ c))
-      go l a b c = simp ints (omega arith)
+      sum-turn (N / 3) (λ n. L N n k *ℤ middle N u n) (λ n. L N n k *ℤ middle N v n)
+      (λ n. ap (λ (z : ℤ). L N n k *ℤ z) (middle-turn N u v t n) ∙ *ℤ-negℤ (L N n k) (middle N u n))
 
   B-turn : (k : ℕ) → R.B N v k ≡ negℤ (R.B N u k)
   unfolding R.B
-  B-turn k = sum-turn (N / 3) (λ n. L N n k *ℤ R.rB N u n) (λ n. L N n k *ℤ R.rB N v n) (λ n. rw (rB-turn n) (mul-neg (L N n k) (R.rB N u n)))
-
-  turned-turn : (n : ℕ) (z : ℤ) → turned N n (negℤ z) ≡ negℤ (turned N n z)
-  unfolding turned
-  turned-turn n z = cond-neg (eqb ((n + N / 12) % 2) 0) (negℤ z) z
+  B-turn k = sum-turn (N / 3) (λ n. L N n k *ℤ R.rB N u n) (λ n. L N n k *ℤ R.rB N v n) (λ n. rw (rB-turn N u v t n) (*ℤ-negℤ (L N n k) (R.rB N u n)))
 
   G-turn : (k : ℕ) → R.G N v k ≡ negℤ (R.G N u k)
   unfolding R.G
   G-turn k =
-      sum-turn (N / 3) (λ n. L N n k *ℤ turned N n (R.rC N u n)) (λ n. L N n k *ℤ turned N n (R.rC N v n))
-      (λ n. rw (rC-turn n, turned-turn n (R.rC N u n)) (mul-neg (L N n k) (turned N n (R.rC N u n))))
+      sum-turn (N / 3) (λ n. L N n k *ℤ turnedC N u n) (λ n. L N n k *ℤ turnedC N v n)
+      (λ n. ap (λ (z : ℤ). L N n k *ℤ z) (turnedC-turn N u v t n) ∙ *ℤ-negℤ (L N n k) (turnedC N u n))
 
   D-turn : (k : ℕ) → R.D N v k ≡ negℤ (R.D N u k)
   unfolding R.D
@@ -167,22 +109,17 @@ module _ (N : ℕ) (u v : ℕ → ℤ) (t : (n : ℕ) → v n ≡ negℤ (u n)) 
       let k = i / 3 in
       rw (
         rnd-turn (2 ^ 28) (lit< tt) (R.A N u k) (R.A N v k) (A-turn k),
-        rnd-turn (2 ^ 29) (lit< tt) (R.B N u k +ℤ R.D N u k) (R.B N v k +ℤ R.D N v k) (rw (B-turn k, D-turn k) (plus (R.B N u k) (R.D N u k))),
-        rnd-turn (2 ^ 29) (lit< tt) (R.B N u k -ℤ R.D N u k) (R.B N v k -ℤ R.D N v k) (rw (B-turn k, D-turn k) (minus (R.B N u k) (R.D N u k))),
+        rnd-turn (2 ^ 29) (lit< tt) (R.B N u k +ℤ R.D N u k) (R.B N v k +ℤ R.D N v k) (rw (B-turn k, D-turn k) (plus-neg (R.B N u k) (R.D N u k))),
+        rnd-turn (2 ^ 29) (lit< tt) (R.B N u k -ℤ R.D N u k) (R.B N v k -ℤ R.D N v k) (rw (B-turn k, D-turn k) (minus-neg (R.B N u k) (R.D N u k))),
         cond-neg (eqb (i % 3) 0) (rnd (R.B N u k +ℤ R.D N u k) (2 ^ 29)) (rnd (R.B N u k -ℤ R.D N u k) (2 ^ 29)),
       )
       (cond-neg (eqb (i % 3) 1) (rnd (R.A N u k) (2 ^ 28)) (cond (eqb (i % 3) 0) (rnd (R.B N u k +ℤ R.D N u k) (2 ^ 29)) (rnd (R.B N u k -ℤ R.D N u k) (2 ^ 29))))
-    where
-      plus : (a b : ℤ) → negℤ a +ℤ negℤ b ≡ negℤ (a +ℤ b)
-      plus a b = simp ints (omega arith)
-
-      minus : (a b : ℤ) → negℤ a -ℤ negℤ b ≡ negℤ (a -ℤ b)
-      minus a b = simp ints (omega arith)
 
   spectrum-turn : (route : Route) → spectrum route N v ≡ opposite (spectrum route N u)
-  unfolding spectrum direct R.short
+  unfolding spectrum direct R.short double
   spectrum-turn Direct = table-turn (N / 2) (X N u) (X N v) X-turn
   spectrum-turn Short = table-turn (N / 2) (R.shortX N u) (R.shortX N v) shortX-turn
+  spectrum-turn Double = table-turn (N / 2) (doubleX N u) (doubleX N v) (doubleX-turn N u v t)
 
 -- ---- a block and a recording
 block-turn : (route : Route) (N : ℕ) (left right : ℕ → ℤ) (x : List ℤ) → spectrum route N (y N left right (opposite x)) ≡ opposite (spectrum route N (y N left right x))

@@ -30,7 +30,7 @@ pub record Sign-rule : Type 0 where
   pub samples : (x : List ℤ) → Turnable x → (i : ℕ) → i < length (opposite x) → Sample (at (opposite x) i)
   -- .. and its turned sample is none
   pub without-least : Sample (negℤ least) → ⊥
-  -- a block by either route, at joints of any halves
+  -- a block by any route, at joints of any halves
   pub block : (route : Route) (N : ℕ) (left right : ℕ → ℤ) (x : List ℤ) → spectrum route N (y N left right (opposite x)) ≡ opposite (spectrum route N (y N left right x))
   -- what two taken calls of `analyse` leave, at every pair of shapes (P7)
   pub analysed : (route : Route) (N left right : ℕ) (x out out′ : List ℤ) → analyseCode route N left right x out ≡ 0 → analyseCode route N left right (opposite x) out′ ≡ 0 →

@@ -8,7 +8,7 @@ use lib.ListN.{length}
 use lib.IntN.{ℤ}
 use Rattle.cosine.specs.Kernels.{tabled}
 use Rattle.analysis.specs.declared.Route.{Route}
-use Rattle.analysis.specs.declared.Route.the-variants.{Direct, Short}
+use Rattle.analysis.specs.declared.Route.the-variants.{Direct, Short, Double}
 use Rattle.analysis.specs.Analysis.{offered, unitsOf}
 use Rattle.stream.specs.declared.Stream.{Stream}
 use Rattle.stream.specs.Steps.{next, hop}
@@ -80,7 +80,7 @@ distance route N text = (half N text + unitsOf route + 8) / 16
 unfoldable pub told : Route → ℕ → List ℕ → Told
 told route N text = record { code = toldCode route N text; distance = cond (eqb (toldCode route N text) 0) (distance route N text) 0 }
 
--- `tell`, for C: the route by its number, 0 direct and 1 short, any other being one that is not offered; and room for one distance, another length being 2,
+-- `tell`, for C: the route by its number, 0 direct, 1 short and 2 double, any other being one that is not offered; and room for one distance, another length being 2,
 -- tested last
 unfoldable pub tellCode : Route → ℕ → List ℕ → List ℕ → ℕ
 tellCode route N text room = cond (eqb (toldCode route N text) 0) (cond (eqb (length room) 1) 0 2) (toldCode route N text)
@@ -89,10 +89,16 @@ unfoldable pub tellOut : Route → ℕ → List ℕ → List ℕ → List ℕ
 tellOut route N text room = cond (eqb (tellCode route N text room) 0) (distance route N text ∷ []) room
 
 unfoldable pub tellNumber : (number N : ℕ) → List ℕ → List ℕ → ℕ
-tellNumber number N text room = cond (eqb number 0) (tellCode Direct N text room) (cond (eqb number 1) (tellCode Short N text room) 1)
+tellNumber number N text room =
+    cond (eqb number 0) (tellCode Direct N text room)
+    (cond (eqb number 1) (tellCode Short N text room)
+    (cond (eqb number 2) (tellCode Double N text room) 1))
 
 unfoldable pub tellNumberOut : (number N : ℕ) → List ℕ → List ℕ → List ℕ
-tellNumberOut number N text room = cond (eqb number 0) (tellOut Direct N text room) (cond (eqb number 1) (tellOut Short N text room) room)
+tellNumberOut number N text room =
+    cond (eqb number 0) (tellOut Direct N text room)
+    (cond (eqb number 1) (tellOut Short N text room)
+    (cond (eqb number 2) (tellOut Double N text room) room))
 
 -- ---- what a step on levels brings: the table's own number, then the number of levels
 unfoldable pub broughtCauses : ℕ → List ℕ → List ℤ → List Cause

@@ -89,6 +89,7 @@ fn units(route: Route) -> u32
     match route {
         Route::Direct => 0,
         Route::Short => 16,
+        Route::Double => 32,
     }
 }
 
@@ -142,7 +143,7 @@ fn tell_by(route: Route, n: usize, table: &[u8], room: &mut [u32]) -> u32
     0
 }
 
-// The same, with the route by its number: 0 is direct, 1 short, and any other is not offered.
+// The same, with the route by its number: 0 is direct, 1 short, 2 double, and any other is not offered.
 pub fn tell(number: u32, n: usize, table: &[u8], room: &mut [u32]) -> u32
     ensures { λ r. ⌜ r ≡ tellNumber number n (now (table .entry)) (now (room .entry)) ⌝ }
     ensures { λ _. ⌜ now (room .exit) ≡ tellNumberOut number n (now (table .entry)) (now (room .entry)) ⌝ }
@@ -152,6 +153,9 @@ pub fn tell(number: u32, n: usize, table: &[u8], room: &mut [u32]) -> u32
     }
     if number == 1 {
         return tell_by(Route::Short, n, table, room);
+    }
+    if number == 2 {
+        return tell_by(Route::Double, n, table, room);
     }
     1
 }

@@ -1,10 +1,12 @@
 pub mod ShortRoute
+pub mod Parts
 pub mod OfferLaws
 pub mod WindowLaws
 pub mod ShortSizeLaws
 pub mod TripleLaws
 pub mod ShortLaws
 pub mod ShortFoldLaws
+pub mod SignLaws
 pub mod RotationLaws
 pub mod ShortStepLaws
 pub mod PartLaws

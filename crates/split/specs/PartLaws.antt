@@ -21,7 +21,7 @@ use Rattle.tables.specs.LiftLists.{Lifted, liftList, baseList}
 use Rattle.transform.specs.LiftLaws.{lifted, lifted-length, lifted-is, raised, lowered, folds-summed}
 use Rattle.transform.specs.LiftLaws as lifts
 use Rattle.split.specs.ShortRoute.{rB, A, B, G}
-use Rattle.split.specs.ShortFoldLaws.{middle, turnedC}
+use Rattle.split.specs.Parts.{middle, turnedC}
 use Rattle.split.specs.ShortSizeLaws.{middle-size, rB-size, turned-size}
 use Rattle.split.specs.ShortStepLaws.{table-small, third-step}
 use Rattle.split.specs.RotationLaws.{rotated, besideE, besideF, signed, rotated-is}
@@ -75,9 +75,9 @@ module _ (N : ℕ) (y : ℕ → ℤ) (y≤ : (n : ℕ) → n < N → natAbs (y n
   place-size = go (eqb k 0) (eqb k 1)
     where
       go : (b c : Bool) → natAbs (cond b (middle N y n) (cond c (rB N y n) (turnedC N y n))) ≤ 2 ^ 26
-      go true c = omega (arith, middle-size N y y≤ n l)
-      go false true = rB-size N y y≤ n l
-      go false false = turned-size N y y≤ n l
+      go true c = omega (arith, middle-size N y (2 ^ 23) y≤ n l)
+      go false true = rB-size N y (2 ^ 23) y≤ n l
+      go false false = turned-size N y (2 ^ 23) y≤ n l
 
 -- ---- what the leaves of the split hand on to each other
 -- the split is given N inputs y, windowed, few enough for its sums to fit
@@ -101,12 +101,12 @@ pub record Third (k N : ℕ) (y w : List ℤ) : Type 0 where
   pub part : Part (N / 3)
   pub most : N / 3 / 2 ≤ 36
   pub is : w ≡ third k N (at y)
-  pub small : Small w (2 ^ 26)
+  pub small : Small w (2 ^ 28)
 
 pub third-made : (k N : ℕ) (y w : List ℤ) → Given N y → w ≡ third k N (at y) → Third k N y w
 unfolding third
 third-made k N y w g h =
-    record { part = g .part; most = omega (arith, g .few); is = h; small = rw h (table-small (N / 3) (2 ^ 26) (place k N (at y)) (λ i l. place-size N (at y) (λ j q. g .small .small j (rw (g .all) q)) k i l)) }
+    record { part = g .part; most = omega (arith, g .few); is = h; small = rw h (table-small (N / 3) (2 ^ 28) (place k N (at y)) (λ i l. omega (arith, place-size N (at y) (λ j q. g .small .small j (rw (g .all) q)) k i l))) }
 
 -- lifted inputs of a part of P, half as many
 pub record Ready (P : ℕ) (z : List ℤ) : Type 0 where
@@ -125,11 +125,11 @@ module _ (k N : ℕ) (y w : List ℤ) (t : Third k N y w) where
   pub halved-input : (z : List ℤ) → z ≡ halved w → Input (N / 3) z
   halved-input z e =
       let p : Part (length w) = subst Part (sym third-long) (t .part) in
-      let s = table-small (length w / 2) (2 ^ 27) (folded (length w) (at w)) (folded-size (length w) p (2 ^ 26) (at w) (λ i q. t .small .small i q)) in
+      let s = table-small (length w / 2) (2 ^ 29) (folded (length w) (at w)) (folded-size (length w) p (2 ^ 28) (at w) (λ i q. t .small .small i q)) in
       rw e (record {
         most = omega (arith, t .most);
         long = length-table (folded (length w) (at w)) (length w / 2) ∙ ap (λ (n : ℕ). n / 2) third-long;
-        small = record { small = λ i q. omega (arith, s .small i q) };
+        small = s;
       })
 
   pub inputs-ready : Ready (N / 3) (inputs w)

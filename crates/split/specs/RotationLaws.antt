@@ -4,7 +4,7 @@ use mathlib.Core.Bool.{Bool, true, false, cond}
 use mathlib.Core.List.{List}
 use Prim.Native.Nat.{ℕ, _+_, _*_, _/_, _^_, _≤_, _<_}
 use native.Mathlib.Omega.{arith}
-use lib.Dec.{eqb, eqb→eq, lit<}
+use lib.Dec.{T, eqb, eqb→eq, ltb, ltb→lt, lit<}
 use lib.ListN.{length}
 use lib.IntN.{ℤ, pos, natAbs, _+ℤ_, _-ℤ_, _*ℤ_}
 use Rattle.arithmetic.specs.Rounding.{rnd}
@@ -23,6 +23,36 @@ use Rattle.split.specs.ShortSizeLaws.{e-size, f-size, eB-size, fB-size, 
 unfoldable pub rotated : ℕ → (ℕ → ℤ) → List ℤ → List ℤ → ℕ → ℤ
 rotated N y p q n = rnd (e N y n *ℤ (at p n -ℤ pos (2 ^ 27)) +ℤ f N y n *ℤ (at q n -ℤ pos (2 ^ 27))) (2 ^ 26)
 
+-- the size of the inputs that are turned in a part of n: the products of lifted numbers, from 36 on, take less than the others
+unfoldable pub limit : ℕ → ℕ
+limit n = cond (ltb n 36) (2 ^ 26) (2 ^ 25)
+
+module _ (n : ℕ) where
+  pub limit-most : limit n ≤ 2 ^ 26
+  unfolding limit
+  limit-most = go (ltb n 36)
+    where
+      go : (b : Bool) → cond b (2 ^ 26) (2 ^ 25) ≤ 2 ^ 26
+      go true = omega arith
+      go false = omega arith
+
+  pub limit-long : 36 ≤ n → limit n ≤ 2 ^ 25
+  unfolding limit
+  limit-long h = go (ltb n 36) (ltb→lt n 36)
+    where
+      go : (b : Bool) → (T b → n < 36) → cond b (2 ^ 26) (2 ^ 25) ≤ 2 ^ 25
+      go true less = absurd (omega (arith, less tt, h))
+      go false less = omega arith
+
+  -- a windowed block is within it
+  pub limit-least : 2 ^ 23 ≤ limit n
+  unfolding limit
+  limit-least = go (ltb n 36)
+    where
+      go : (b : Bool) → 2 ^ 23 ≤ cond b (2 ^ 26) (2 ^ 25)
+      go true = omega arith
+      go false = omega arith
+
 -- m cosines of each kind
 pub record Turns (m : ℕ) (p q : List ℤ) : Type 0 where
   pub p-long : length p ≡ m
@@ -31,21 +61,21 @@ pub record Turns (m : ℕ) (p q : List ℤ) : Type 0 where
   pub q-small : (n : ℕ) → n < m → natAbs (at q n -ℤ pos (2 ^ 27)) ≤ 2 ^ 27
 
 -- what is rounded, and the value, stay small
-module _ (N : ℕ) (y : ℕ → ℤ) (y≤ : (n : ℕ) → n < N → natAbs (y n) ≤ 2 ^ 23) (p q : List ℤ) (t : Turns (N / 3) p q) (n : ℕ) (l : n < N / 3) where
-  pub turn-size : natAbs (e N y n *ℤ (at p n -ℤ pos (2 ^ 27)) +ℤ f N y n *ℤ (at q n -ℤ pos (2 ^ 27))) ≤ 2 ^ 52
+module _ (N : ℕ) (y : ℕ → ℤ) (Q : ℕ) (y≤ : (n : ℕ) → n < N → natAbs (y n) ≤ Q) (p q : List ℤ) (t : Turns (N / 3) p q) (n : ℕ) (l : n < N / 3) where
+  pub turn-size : natAbs (e N y n *ℤ (at p n -ℤ pos (2 ^ 27)) +ℤ f N y n *ℤ (at q n -ℤ pos (2 ^ 27))) ≤ 2 ^ 26 * (8 * Q)
   turn-size =
-      let P = at p n -ℤ pos (2 ^ 27) in
-      let Q = at q n -ℤ pos (2 ^ 27) in
+      let u = at p n -ℤ pos (2 ^ 27) in
+      let v = at q n -ℤ pos (2 ^ 27) in
       omega (
         arith,
-        abs-add (e N y n *ℤ P) (f N y n *ℤ Q),
-        abs-mul-le (e N y n) P (e-size N y y≤ n l) (t .p-small n l),
-        abs-mul-le (f N y n) Q (f-size N y y≤ n l) (t .q-small n l),
+        abs-add (e N y n *ℤ u) (f N y n *ℤ v),
+        abs-mul-le (e N y n) u (e-size N y Q y≤ n l) (t .p-small n l),
+        abs-mul-le (f N y n) v (f-size N y Q y≤ n l) (t .q-small n l),
       )
 
-  pub rotated-size : natAbs (rotated N y p q n) ≤ 2 ^ 26
+  pub rotated-size : natAbs (rotated N y p q n) ≤ 8 * Q
   unfolding rotated
-  rotated-size = rnd-le (e N y n *ℤ (at p n -ℤ pos (2 ^ 27)) +ℤ f N y n *ℤ (at q n -ℤ pos (2 ^ 27))) {b = 2 ^ 26} {n = 2 ^ 26} (lit< tt) (omega (arith, turn-size))
+  rotated-size = rnd-le (e N y n *ℤ (at p n -ℤ pos (2 ^ 27)) +ℤ f N y n *ℤ (at q n -ℤ pos (2 ^ 27))) {b = 2 ^ 26} {n = 8 * Q} (lit< tt) turn-size
 
 -- ---- the two rotations: of part 1 for rB, of part 2 for rC
 abbrev pub besideE : ℕ → ℕ → List ℤ

@@ -2,20 +2,12 @@
 use mathlib.Core.Path.{_≡_}
 use Prim.Native.Nat.{ℕ, _*_, _/_}
 use native.Mathlib.Omega.{arith}
-use lib.IntN.{ℤ, _+ℤ_, _-ℤ_, _*ℤ_, *ℤ-comm}
+use lib.IntN.{ℤ, _*ℤ_, *ℤ-comm}
 use Rattle.arithmetic.specs.Sums.{sum}
 use Rattle.arithmetic.specs.SumLaws.{sum-ext}
-use Rattle.cosine.specs.Kernels.{K, L, turned}
+use Rattle.cosine.specs.Kernels.{K, L}
 use Rattle.cosine.specs.LengthLaws.{Part, Length, d-third}
 use Rattle.transform.specs.Analysis.{S}
-use Rattle.split.specs.ShortRoute.{a, b, c, rC}
-
--- what the sums weigh: a - b + c, and rC with its signs
-abbrev pub middle : ℕ → (ℕ → ℤ) → ℕ → ℤ
-middle N y n = a N y n -ℤ b N y n +ℤ c N y n
-
-abbrev pub turnedC : ℕ → (ℕ → ℤ) → ℕ → ℤ
-turnedC N y n = turned N n (rC N y n)
 
 module _ (N : ℕ) (l : Length N) (t : Part (N / 3)) where
   -- the short kernel is the kernel of a third of the length

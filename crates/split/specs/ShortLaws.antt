@@ -97,7 +97,7 @@ module _ (N : ℕ) (o : T (offered N)) where
     unfolding X
     middle-exact k = rw (short-middle N y k, A-is k)
 
-    -- ---- the two beside them, unrounded: B(k) ± D(k) against twice the direct sum
+    -- ---- the two beside them, unrounded: B(k) ± D(k) against twice the direct sum, Q being the size of the inputs
     rB-near : (n : ℕ) → natAbs (pos (2 ^ 26) *ℤ rB N y n -ℤ made (a N y n) (b N y n) (c N y n) (eB N n) (negℤ (fB N n))) ≤ 2 ^ 25
     unfolding rB made e f
     rB-near n =
@@ -108,9 +108,9 @@ module _ (N : ℕ) (o : T (offered N)) where
     unfolding rC made e f
     rC-near n = rnd-near ((pos 2 *ℤ c N y n -ℤ a N y n +ℤ b N y n) *ℤ eC N n +ℤ (a N y n +ℤ b N y n) *ℤ fC N n) {b = 2 ^ 26} (lit< tt)
 
-    module _ (y≤ : (n : ℕ) → n < N → natAbs (y n) ≤ 2 ^ 23) where
+    module _ (Q : ℕ) (y≤ : (n : ℕ) → n < N → natAbs (y n) ≤ Q) where
       outer : (k i : ℕ) (g : ℕ → ℤ) → ((n : ℕ) → natAbs (g n) ≤ 2 ^ 26) → ((n : ℕ) → n < N / 3 → Split-at N n k i (g n)) →
-          natAbs (B N y k +ℤ sum (N / 3) (λ n. g n *ℤ rC N y n) -ℤ pos 2 *ℤ S N y i) ≤ N / 3 * (17 * 2 ^ 23)
+          natAbs (B N y k +ℤ sum (N / 3) (λ n. g n *ℤ rC N y n) -ℤ pos 2 *ℤ S N y i) ≤ N / 3 * (2 ^ 26 + 9 * Q)
       unfolding B
       outer k i g g≤ near =
           rw (
@@ -119,9 +119,9 @@ module _ (N : ℕ) (o : T (offered N)) where
             ← (sum-add (N / 3) (λ n. L N n k *ℤ rB N y n) (λ n. g n *ℤ rC N y n)),
             ← (sum-sub (N / 3) (λ n. L N n k *ℤ rB N y n +ℤ g n *ℤ rC N y n) (λ n. pos 2 *ℤ three i n)),
           )
-          (sum-abs (N / 3) (λ n. L N n k *ℤ rB N y n +ℤ g n *ℤ rC N y n -ℤ pos 2 *ℤ three i n) (17 * 2 ^ 23)
-          (λ n p. off≤ (L N n k) (g n) (eB N n) (fB N n) (eC N n) (fC N n) (K N (N / 3 - 1 - n) i) (K N (2 * N / 3 - 1 - n) i) (K N (N - 1 - n) i) (near n p) (L-size N n k) (g≤ n)
-          (a N y n) (b N y n) (c N y n) (a-size N y y≤ n p) (b-size N y y≤ n p) (c-size N y y≤ n p) (rB N y n) (rC N y n) (rB-near n) (rC-near n)))
+          (sum-abs (N / 3) (λ n. L N n k *ℤ rB N y n +ℤ g n *ℤ rC N y n -ℤ pos 2 *ℤ three i n) (2 ^ 26 + 9 * Q)
+          (λ n p. off≤ (L N n k) (g n) (eB N n) (fB N n) (eC N n) (fC N n) (K N (N / 3 - 1 - n) i) (K N (2 * N / 3 - 1 - n) i) (K N (N - 1 - n) i) (near n p) (L-size N n k) (g≤ n) Q
+          (a N y n) (b N y n) (c N y n) (a-size N y Q y≤ n p) (b-size N y Q y≤ n p) (c-size N y Q y≤ n p) (rB N y n) (rC N y n) (rB-near n) (rC-near n)))
 
       module _ (k : ℕ) where
         D-is : D N y k ≡ sum (N / 3) (λ n. L′ N k n *ℤ rC N y n)
@@ -134,13 +134,14 @@ module _ (N : ℕ) (o : T (offered N)) where
             ∙ sum-neg (N / 3) (λ n. L′ N k n *ℤ rC N y n)
             ∙ ap negℤ (sym D-is)
 
-        plus-near : k < N / 6 → natAbs (B N y k +ℤ D N y k -ℤ pos 2 *ℤ S N y (3 * k)) ≤ N / 3 * (17 * 2 ^ 23)
+        pub plus-near : k < N / 6 → natAbs (B N y k +ℤ D N y k -ℤ pos 2 *ℤ S N y (3 * k)) ≤ N / 3 * (2 ^ 26 + 9 * Q)
         plus-near q = rw D-is (outer k (3 * k) (L′ N k) (L′-size N k) (λ n p. split-plus N (offered-short N o) n k p q))
 
-        minus-near : k < N / 6 → natAbs (B N y k -ℤ D N y k -ℤ pos 2 *ℤ S N y (3 * k + 2)) ≤ N / 3 * (17 * 2 ^ 23)
+        pub minus-near : k < N / 6 → natAbs (B N y k -ℤ D N y k -ℤ pos 2 *ℤ S N y (3 * k + 2)) ≤ N / 3 * (2 ^ 26 + 9 * Q)
         minus-near q = rw D-other at (outer k (3 * k + 2) (λ n. negℤ (L′ N k n)) (λ n. rw (abs-neg (L′ N k n)) (L′-size N k n)) (λ n p. split-minus N (offered-short N o) n k p q))
 
-      -- ---- rounded, which adds less than 1
+    -- ---- of a windowed block, rounded, which adds less than 1
+    module _ (y≤ : (n : ℕ) → n < N → natAbs (y n) ≤ 2 ^ 23) where
       rounded : (i : ℕ) (E : ℤ) → natAbs (E -ℤ pos 2 *ℤ S N y i) ≤ N / 3 * (17 * 2 ^ 23) → natAbs (rnd E (2 ^ 29) -ℤ X N y i) ≤ 7
       unfolding X
       rounded i E h = go (N / 3) (S N y i) E (X N y i) (rnd E (2 ^ 29)) (omega (arith, offered-most N o)) h (rnd-near (S N y i) {b = 2 ^ 28} (lit< tt)) (rnd-near E {b = 2 ^ 29} (lit< tt))
@@ -151,7 +152,7 @@ module _ (N : ℕ) (o : T (offered N)) where
 
       module _ (k : ℕ) (q : k < N / 6) where
         first-near : natAbs (shortX N y (3 * k) -ℤ X N y (3 * k)) ≤ 7
-        first-near = rw (short-first N y k) (rounded (3 * k) (B N y k +ℤ D N y k) (plus-near k q))
+        first-near = rw (short-first N y k) (rounded (3 * k) (B N y k +ℤ D N y k) (plus-near (2 ^ 23) y≤ k q))
 
         middle-near : natAbs (shortX N y (3 * k + 1) -ℤ X N y (3 * k + 1)) ≤ 7
         middle-near = rw (middle-exact k) (none (X N y (3 * k + 1)))
@@ -160,7 +161,7 @@ module _ (N : ℕ) (o : T (offered N)) where
             none z = simp bounds (omega arith)
 
         last-near : natAbs (shortX N y (3 * k + 2) -ℤ X N y (3 * k + 2)) ≤ 7
-        last-near = rw (short-last N y k) (rounded (3 * k + 2) (B N y k -ℤ D N y k) (minus-near k q))
+        last-near = rw (short-last N y k) (rounded (3 * k + 2) (B N y k -ℤ D N y k) (minus-near (2 ^ 23) y≤ k q))
 
       pub within-7 : (i : ℕ) → i < N / 2 → natAbs (shortX N y i -ℤ X N y i) ≤ 7
       within-7 i p = go (i % 3) refl (mod-lt i {m = 3} (lit< tt))

@@ -17,8 +17,9 @@ use Rattle.cosine.specs.Kernels.{rising, falling, L, turned}
 use Rattle.cosine.specs.LengthLaws.{Part, Length}
 use Rattle.transform.specs.Analysis.{y, S}
 use Rattle.split.specs.ShortRoute.{a, b, c, e, f, rB, rC, A, B, G, D, Unrounded, shortX, short}
+use Rattle.split.specs.Parts.{middle}
 use Rattle.split.specs.ShortSizeLaws.{A-size, plus-size, minus-size}
-use Rattle.split.specs.ShortFoldLaws.{middle, third-sum}
+use Rattle.split.specs.ShortFoldLaws.{third-sum}
 use Rattle.tables.specs.HalfLaws.{riseList, fallList}
 use Rattle.transform.specs.DirectLaws.{y-lent, S-ext}
 
@@ -123,14 +124,14 @@ module _ (N : ℕ) (u v : ℕ → ℤ) (same : (n : ℕ) → n < N → u n ≡ v
     unfolding c
     c-ext = same (N - 1 - n) (omega arith)
 
-    middle-ext : middle N u n ≡ middle N v n
+    pub middle-ext : middle N u n ≡ middle N v n
     middle-ext = rw (a-ext, b-ext, c-ext)
 
-    rB-ext : rB N u n ≡ rB N v n
+    pub rB-ext : rB N u n ≡ rB N v n
     unfolding rB e f
     rB-ext = rw (a-ext, b-ext, c-ext)
 
-    rC-ext : rC N u n ≡ rC N v n
+    pub rC-ext : rC N u n ≡ rC N v n
     unfolding rC e f
     rC-ext = rw (a-ext, b-ext, c-ext)
 

@@ -1,6 +1,6 @@
--- Laws of the split at one triple of inputs a, b and c: what rB and rC make of it is twice what it adds to the direct sum, up to 17 × 2^23.
+-- Laws of the split at one triple of inputs a, b and c of size Q: what rB and rC make of it is twice what it adds to the direct sum, up to 2^26 + 9 Q.
 use mathlib.Core.Path.{_≡_}
-use Prim.Native.Nat.{_*_, _^_, _≤_}
+use Prim.Native.Nat.{ℕ, _+_, _*_, _^_, _≤_}
 use native.Mathlib.Omega.{arith}
 use lib.IntN.{ℤ, pos, negℤ, natAbs, _+ℤ_, _-ℤ_, _*ℤ_}
 use Rattle.arithmetic.specs.IntegerLaws.{posints}
@@ -24,7 +24,7 @@ made-is l a b c u v = rw (flat a b c u v) (each l a b c (negℤ u +ℤ v) (u +�
     each l a b c p q r = rw (*ℤ-distl l (a *ℤ p +ℤ b *ℤ q) (c *ℤ r), *ℤ-distl l (a *ℤ p) (b *ℤ q), *ℤ-lcomm l a p, *ℤ-lcomm l b q, *ℤ-lcomm l c r)
 
 module _ (l g u v w z ka kb kc : ℤ) (near : Split l g u v w z ka kb kc) (l≤ : natAbs l ≤ 2 ^ 26) (g≤ : natAbs g ≤ 2 ^ 26)
-    (a b c : ℤ) (a≤ : natAbs a ≤ 2 ^ 23) (b≤ : natAbs b ≤ 2 ^ 23) (c≤ : natAbs c ≤ 2 ^ 23)
+    (Q : ℕ) (a b c : ℤ) (a≤ : natAbs a ≤ Q) (b≤ : natAbs b ≤ Q) (c≤ : natAbs c ≤ Q)
     (rb rc : ℤ) (rb≈ : natAbs (pos (2 ^ 26) *ℤ rb -ℤ made a b c u (negℤ v)) ≤ 2 ^ 25) (rc≈ : natAbs (pos (2 ^ 26) *ℤ rc -ℤ made a b c w z) ≤ 2 ^ 25) where
   abbrev fa : ℤ
   fa = l *ℤ (negℤ u -ℤ v) +ℤ g *ℤ (negℤ w +ℤ z) -ℤ pos (2 ^ 27) *ℤ ka
@@ -70,15 +70,15 @@ module _ (l g u v w z ka kb kc : ℤ) (near : Split l g u v w z ka kb kc) (l≤ 
               +ℤ (p +ℤ d -ℤ pos (2 ^ 27) *ℤ ka +ℤ (q +ℤ e -ℤ pos (2 ^ 27) *ℤ kb) +ℤ (r +ℤ f -ℤ pos (2 ^ 27) *ℤ kc))
           lin x y p q r d e f ka kb kc = simp posints (omega arith)
 
-  pub off≤ : natAbs (l *ℤ rb +ℤ g *ℤ rc -ℤ pos 2 *ℤ (a *ℤ ka +ℤ b *ℤ kb +ℤ c *ℤ kc)) ≤ 17 * 2 ^ 23
+  pub off≤ : natAbs (l *ℤ rb +ℤ g *ℤ rc -ℤ pos 2 *ℤ (a *ℤ ka +ℤ b *ℤ kb +ℤ c *ℤ kc)) ≤ 2 ^ 26 + 9 * Q
   unfolding off
   off≤ =
-      let k : natAbs (pos (2 ^ 26) *ℤ off) ≤ 17 * 2 ^ 49 =
+      let k : natAbs (pos (2 ^ 26) *ℤ off) ≤ 2 ^ 26 * (2 ^ 26 + 9 * Q) =
       rw causes
       (five (l *ℤ inB) (g *ℤ inC) (a *ℤ fa) (b *ℤ fb) (c *ℤ fc)
       (abs-mul-le l inB l≤ rb≈) (abs-mul-le g inC g≤ rc≈) (abs-mul-le a fa a≤ (near .a-near)) (abs-mul-le b fb b≤ (near .b-near)) (abs-mul-le c fc c≤ (near .c-near))) in
       omega (arith, rw abs-mul at k)
     where
       five : (x y p q r : ℤ) → natAbs x ≤ 2 ^ 26 * 2 ^ 25 → natAbs y ≤ 2 ^ 26 * 2 ^ 25 →
-          natAbs p ≤ 2 ^ 23 * (3 * 2 ^ 26) → natAbs q ≤ 2 ^ 23 * (3 * 2 ^ 26) → natAbs r ≤ 2 ^ 23 * (3 * 2 ^ 26) → natAbs (x +ℤ y +ℤ (p +ℤ q +ℤ r)) ≤ 17 * 2 ^ 49
+          natAbs p ≤ Q * (3 * 2 ^ 26) → natAbs q ≤ Q * (3 * 2 ^ 26) → natAbs r ≤ Q * (3 * 2 ^ 26) → natAbs (x +ℤ y +ℤ (p +ℤ q +ℤ r)) ≤ 2 ^ 26 * (2 ^ 26 + 9 * Q)
       five x y p q r hx hy hp hq hr = omega (arith, abs-add (x +ℤ y) (p +ℤ q +ℤ r), abs-add x y, abs-add (p +ℤ q) r, abs-add p q)

@@ -24,7 +24,7 @@ struct Triple {
 fn folded_at(w: &[i32], j: usize) -> i32
     requires { ⌜ 4 * (length (now w) / 4) ≡ length (now w) ⌝ }
     requires { ⌜ j < length (now w) / 2 ⌝ }
-    requires { ⌜ Small (now w) (2 ^ 26) ⌝ }
+    requires { ⌜ Small (now w) (2 ^ 28) ⌝ }
     ensures { λ r. ⌜ r ≡ folded (length (now (w .entry))) (at (now (w .entry))) j ⌝ }
 {
     let h = w.len() / 4;
@@ -38,7 +38,7 @@ fn folded_at(w: &[i32], j: usize) -> i32
 fn fold(w: &[i32], z: &mut [i32])
     requires { ⌜ 4 * (length (now w) / 4) ≡ length (now w) ⌝ }
     requires { ⌜ 2 * length (now z) ≡ length (now w) ⌝ }
-    requires { ⌜ Small (now w) (2 ^ 26) ⌝ }
+    requires { ⌜ Small (now w) (2 ^ 28) ⌝ }
     ensures { λ _. ⌜ now (z .exit) ≡ table (length (now (z .entry))) (folded (length (now (w .entry))) (at (now (w .entry)))) ⌝ }
 {
     for j in 0..z.len() {

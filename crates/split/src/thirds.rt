@@ -1,4 +1,4 @@
-// The split of the short route: a part of N inputs y gives the inputs of three parts of N/3, and their sums give A(k), B(k) + D(k) and B(k) - D(k), unrounded.
+// The split: a part of N inputs y gives the inputs of three parts of N/3, and their sums give A(k), B(k) + D(k) and B(k) - D(k), unrounded.
 // The names are document 01's. N is the length of y.
 ghost use mathlib.Core.Path.{_≡_};
 ghost use Prim.Native.Nat.{_-_, _*_, _/_, _^_, _≤_, _<_};
@@ -7,34 +7,34 @@ ghost use lib.IntN.{pos, natAbs, _+ℤ_, _-ℤ_, _*ℤ_};
 ghost use Rattle.arithmetic.specs.Lists.{at, table, Small};
 ghost use Rattle.transform.specs.Stages.{Room};
 ghost use Rattle.split.specs.ShortRoute.{a, b, c, e, f, Unrounded};
-ghost use Rattle.split.specs.ShortFoldLaws.{middle};
-ghost use Rattle.split.specs.RotationLaws.{rotated, Turns, Beside, signed};
-ghost use Rattle.split.specs.PartLaws.{Given, Third, Summed};
+ghost use Rattle.split.specs.Parts.{middle};
+ghost use Rattle.split.specs.RotationLaws.{rotated, limit, Turns, Beside, signed};
+ghost use Rattle.split.specs.PartLaws.{third, Given, Third, Summed};
 
 // a, b and c at place n, below N/3.
 fn a_at(y: &[i32], n: usize) -> i32
     requires { ⌜ n < length (now y) / 3 ⌝ }
-    requires { ⌜ Small (now y) (2 ^ 23) ⌝ }
+    requires { ⌜ Small (now y) (2 ^ 26) ⌝ }
     ensures { λ r. ⌜ r ≡ a (length (now (y .entry))) (at (now (y .entry))) n ⌝ }
-    ensures { λ r. ⌜ natAbs r ≤ 2 ^ 23 ⌝ }
+    ensures { λ r. ⌜ natAbs r ≤ 2 ^ 26 ⌝ }
 {
     y[y.len() / 3 - 1 - n]
 }
 
 fn b_at(y: &[i32], n: usize) -> i32
     requires { ⌜ n < length (now y) / 3 ⌝ }
-    requires { ⌜ Small (now y) (2 ^ 23) ⌝ }
+    requires { ⌜ Small (now y) (2 ^ 26) ⌝ }
     ensures { λ r. ⌜ r ≡ b (length (now (y .entry))) (at (now (y .entry))) n ⌝ }
-    ensures { λ r. ⌜ natAbs r ≤ 2 ^ 23 ⌝ }
+    ensures { λ r. ⌜ natAbs r ≤ 2 ^ 26 ⌝ }
 {
     y[2 * y.len() / 3 - 1 - n]
 }
 
 fn c_at(y: &[i32], n: usize) -> i32
     requires { ⌜ n < length (now y) / 3 ⌝ }
-    requires { ⌜ Small (now y) (2 ^ 23) ⌝ }
+    requires { ⌜ Small (now y) (2 ^ 26) ⌝ }
     ensures { λ r. ⌜ r ≡ c (length (now (y .entry))) (at (now (y .entry))) n ⌝ }
-    ensures { λ r. ⌜ natAbs r ≤ 2 ^ 23 ⌝ }
+    ensures { λ r. ⌜ natAbs r ≤ 2 ^ 26 ⌝ }
 {
     y[y.len() - 1 - n]
 }
@@ -42,7 +42,7 @@ fn c_at(y: &[i32], n: usize) -> i32
 // a - b + c.
 fn middle_at(y: &[i32], n: usize) -> i32
     requires { ⌜ n < length (now y) / 3 ⌝ }
-    requires { ⌜ Small (now y) (2 ^ 23) ⌝ }
+    requires { ⌜ Small (now y) (2 ^ 26) ⌝ }
     ensures { λ r. ⌜ r ≡ middle (length (now (y .entry))) (at (now (y .entry))) n ⌝ }
 {
     a_at(y, n) - b_at(y, n) + c_at(y, n)
@@ -51,7 +51,7 @@ fn middle_at(y: &[i32], n: usize) -> i32
 // e = 2c - a + b.
 fn e_at(y: &[i32], n: usize) -> i32
     requires { ⌜ n < length (now y) / 3 ⌝ }
-    requires { ⌜ Small (now y) (2 ^ 23) ⌝ }
+    requires { ⌜ Small (now y) (2 ^ 26) ⌝ }
     ensures { λ r. ⌜ r ≡ e (length (now (y .entry))) (at (now (y .entry))) n ⌝ }
 {
     2 * c_at(y, n) - a_at(y, n) + b_at(y, n)
@@ -60,7 +60,7 @@ fn e_at(y: &[i32], n: usize) -> i32
 // f = a + b.
 fn f_at(y: &[i32], n: usize) -> i32
     requires { ⌜ n < length (now y) / 3 ⌝ }
-    requires { ⌜ Small (now y) (2 ^ 23) ⌝ }
+    requires { ⌜ Small (now y) (2 ^ 26) ⌝ }
     ensures { λ r. ⌜ r ≡ f (length (now (y .entry))) (at (now (y .entry))) n ⌝ }
 {
     a_at(y, n) + b_at(y, n)
@@ -104,8 +104,8 @@ fn lifted_turn(e: i32, f: i32, p: i32, q: i32) -> i64
 
 // The same with no lifts but the tables'.
 fn plain_turn(e: i32, f: i32, p: i32, q: i32) -> i64
-    requires { ⌜ natAbs e ≤ 2 ^ 27 ⌝ }
-    requires { ⌜ natAbs f ≤ 2 ^ 27 ⌝ }
+    requires { ⌜ natAbs e ≤ 2 ^ 28 ⌝ }
+    requires { ⌜ natAbs f ≤ 2 ^ 28 ⌝ }
     requires { ⌜ natAbs (p -ℤ pos (2 ^ 27)) ≤ 2 ^ 27 ⌝ }
     requires { ⌜ natAbs (q -ℤ pos (2 ^ 27)) ≤ 2 ^ 27 ⌝ }
     ensures { λ r. ⌜ r ≡ e *ℤ (p -ℤ pos (2 ^ 27)) +ℤ f *ℤ (q -ℤ pos (2 ^ 27)) ⌝ }
@@ -115,8 +115,8 @@ fn plain_turn(e: i32, f: i32, p: i32, q: i32) -> i64
 
 // The same in a part of `size` inputs.
 fn turn(size: usize, e: i32, f: i32, p: i32, q: i32) -> i64
-    requires { ⌜ natAbs e ≤ 2 ^ 27 ⌝ }
-    requires { ⌜ natAbs f ≤ 2 ^ 27 ⌝ }
+    requires { ⌜ natAbs e ≤ 4 * limit size ⌝ }
+    requires { ⌜ natAbs f ≤ 4 * limit size ⌝ }
     requires { ⌜ natAbs (p -ℤ pos (2 ^ 27)) ≤ 2 ^ 27 ⌝ }
     requires { ⌜ natAbs (q -ℤ pos (2 ^ 27)) ≤ 2 ^ 27 ⌝ }
     ensures { λ r. ⌜ r ≡ e *ℤ (p -ℤ pos (2 ^ 27)) +ℤ f *ℤ (q -ℤ pos (2 ^ 27)) ⌝ }
@@ -130,10 +130,10 @@ fn turn(size: usize, e: i32, f: i32, p: i32, q: i32) -> i64
 // The rotation of e and f at place n: rB or rC, as p and q are.
 fn rotated_at(size: usize, y: &[i32], p: &[i32], q: &[i32], n: usize) -> i32
     requires { ⌜ n < length (now y) / 3 ⌝ }
-    requires { ⌜ Small (now y) (2 ^ 23) ⌝ }
+    requires { ⌜ Small (now y) (limit size) ⌝ }
     requires { ⌜ Turns (length (now y) / 3) (now p) (now q) ⌝ }
     ensures { λ r. ⌜ r ≡ rotated (length (now (y .entry))) (at (now (y .entry))) (now (p .entry)) (now (q .entry)) n ⌝ }
-    ensures { λ r. ⌜ natAbs r ≤ 2 ^ 26 ⌝ }
+    ensures { λ r. ⌜ natAbs r ≤ 2 ^ 29 ⌝ }
 {
     arithmetic::rnd_shift(turn(size, e_at(y, n), f_at(y, n), p[n], q[n]), 26) as i32
 }
@@ -141,7 +141,7 @@ fn rotated_at(size: usize, y: &[i32], p: &[i32], q: &[i32], n: usize) -> i32
 // The same with its sign: rC's, of part 2, is changed where n + N/12 is even.
 fn outer_at(size: usize, which: usize, y: &[i32], p: &[i32], q: &[i32], n: usize) -> i32
     requires { ⌜ n < length (now y) / 3 ⌝ }
-    requires { ⌜ Small (now y) (2 ^ 23) ⌝ }
+    requires { ⌜ Small (now y) (limit size) ⌝ }
     requires { ⌜ Turns (length (now y) / 3) (now p) (now q) ⌝ }
     ensures { λ r. ⌜ r ≡ signed which (length (now (y .entry))) n (rotated (length (now (y .entry))) (at (now (y .entry))) (now (p .entry)) (now (q .entry)) n) ⌝ }
 {
@@ -152,15 +152,37 @@ fn outer_at(size: usize, which: usize, y: &[i32], p: &[i32], q: &[i32], n: usize
     if (n + y.len() / 12) % 2 == 0 { -r } else { r }
 }
 
-// The inputs of the three parts of N/3, y having n inputs.
+// The inputs of the three parts of N/3, y having n inputs, for the short route's split and the double route's.
+pub fn middle_third(n: usize, y: &[i32], w: &mut [i32])
+    requires { ⌜ length (now y) ≡ n ⌝ }
+    requires { ⌜ Small (now y) (limit n) ⌝ }
+    requires { ⌜ length (now w) ≡ n / 3 ⌝ }
+    ensures { λ _. ⌜ now (w .exit) ≡ third 0 n (at (now (y .entry))) ⌝ }
+{
+    for i in 0..n / 3 {
+        w[i] = middle_at(y, i);
+    }
+}
+
+pub fn outer_third(n: usize, which: usize, y: &[i32], p: &[i32], q: &[i32], w: &mut [i32])
+    requires { ⌜ length (now y) ≡ n ⌝ }
+    requires { ⌜ Small (now y) (limit n) ⌝ }
+    requires { ⌜ Beside which n (now p) (now q) ⌝ }
+    requires { ⌜ length (now w) ≡ n / 3 ⌝ }
+    ensures { λ _. ⌜ now (w .exit) ≡ third which n (at (now (y .entry))) ⌝ }
+{
+    for i in 0..n / 3 {
+        w[i] = outer_at(n, which, y, p, q, i);
+    }
+}
+
+// The same of a windowed block.
 pub fn fill_middle(n: usize, y: &[i32], w: &mut [i32])
     requires { ⌜ Given n (now y) ⌝ }
     requires { ⌜ length (now w) ≡ n / 3 ⌝ }
     ensures { λ _. ⌜ Third 0 n (now (y .entry)) (now (w .exit)) ⌝ }
 {
-    for i in 0..w.len() {
-        w[i] = middle_at(y, i);
-    }
+    middle_third(n, y, w);
 }
 
 pub fn fill_outer(n: usize, which: usize, y: &[i32], p: &[i32], q: &[i32], w: &mut [i32])
@@ -169,9 +191,7 @@ pub fn fill_outer(n: usize, which: usize, y: &[i32], p: &[i32], q: &[i32], w: &m
     requires { ⌜ length (now w) ≡ n / 3 ⌝ }
     ensures { λ _. ⌜ Third which n (now (y .entry)) (now (w .exit)) ⌝ }
 {
-    for i in 0..w.len() {
-        w[i] = outer_at(n, which, y, p, q, i);
-    }
+    outer_third(n, which, y, p, q, w);
 }
 
 // B(k) + D(k) and B(k) - D(k), with D(k) = G(N/6-1-k).

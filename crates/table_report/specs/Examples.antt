@@ -6,6 +6,7 @@ use lib.Dec.{T, eqb}
 use Rattle.arithmetic.specs.Lists.{every}
 use Rattle.cosine.specs.Kernels.{lengths, tabled, shortLengths, shortTabled}
 use Rattle.split.specs.ShortRoute as R
+use Rattle.double_route.specs.Double as D
 use Rattle.analysis.specs.Analysis.{offered, unitsOf}
 use Rattle.checks.specs.Causes.{firstCause}
 use Rattle.text.specs.Bytes.{ascii}
@@ -13,7 +14,7 @@ use Rattle.text.specs.Number.{isDigit, leadingZero, isNatural, naturalFrom, nat
 use Rattle.text.specs.Lines.{inFront, split, ended, unended, lines, remainder, fields, more, line}
 use Rattle.steps.specs.Table.{bounded, numbersOf, rowOf, malformed, joints, byLines, verdict, larger, coarsestIn, coarsest}
 use Rattle.level_calls.specs.LevelCalls.{toldCauses, toldCode, half, distance, told}
-use Rattle.table_report.specs.Report.{lengthIn, lengthOf, refusal, saying, distanceLine, shortLine, takenLines, byTable, reportOf}
+use Rattle.table_report.specs.Report.{lengthIn, lengthOf, refusal, saying, distanceLine, offeredLine, takenLines, byTable, reportOf}
 
 pub record Example : Type 0 where
   pub number : List ℕ
@@ -27,8 +28,9 @@ unfoldable pub examples : List Example
 examples =
     gives (ascii "12") (ascii "0,1,64\n2,5,1000\n") (ascii "taken,1000\ndirect,31\nshort,32\n") ∷
     gives (ascii "12") (ascii "0,5,1\n") (ascii "taken,1\ndirect,0\nshort,1\n") ∷
-    gives (ascii "72") (ascii "0,35,65536\n") (ascii "taken,65536\ndirect,2048\nshort,2049\n") ∷
-    -- the short route is not offered
+    gives (ascii "72") (ascii "0,35,65536\n") (ascii "taken,65536\ndirect,2048\nshort,2049\ndouble,2050\n") ∷
+    gives (ascii "36") (ascii "0,17,1\n") (ascii "taken,1\ndirect,0\nshort,1\ndouble,2\n") ∷
+    -- the short route and the double one are not offered
     gives (ascii "108") (ascii "0,53,3\n") (ascii "taken,3\ndirect,0\n") ∷
     gives (ascii "216") (ascii "0,107,65536\n") (ascii "taken,65536\ndirect,2048\n") ∷
     -- no length, whatever the table is
@@ -53,5 +55,5 @@ same (x ∷ xs) [] = false
 same (x ∷ xs) (y ∷ ys) = eqb x y && same xs ys
 
 pub as-printed : T (every (λ (e : Example). same (reportOf (e .number) (e .text)) (e .prints)) examples)
-unfolding examples every same reportOf byTable takenLines shortLine distanceLine saying refusal lengthOf lengthIn tabled lengths shortTabled shortLengths R.offered offered unitsOf told toldCode toldCauses half distance firstCause verdict byLines malformed joints rowOf numbersOf bounded coarsest coarsestIn larger fields lines remainder split inFront ended unended line more isNumber value isSigned natural naturalFrom isNatural leadingZero isDigit decimal digitsBy
+unfolding examples every same reportOf byTable takenLines offeredLine distanceLine saying refusal lengthOf lengthIn tabled lengths shortTabled shortLengths R.offered D.offered offered unitsOf told toldCode toldCauses half distance firstCause verdict byLines malformed joints rowOf numbersOf bounded coarsest coarsestIn larger fields lines remainder split inFront ended unended line more isNumber value isSigned natural naturalFrom isNatural leadingZero isDigit decimal digitsBy
 as-printed = tt

@@ -1,4 +1,4 @@
--- What the program step-table prints for a length as it is typed and the bytes of a step table: definitions. Document 02, P8.
+-- What the program step-table prints for a length as it is typed and the bytes of a step table: definitions. Document 02, P8 and P12.
 use mathlib.Core.Bool.{cond}
 use mathlib.Core.List.{List, [], _∷_, _++_}
 use Prim.Native.Nat.{ℕ, _/_}
@@ -6,7 +6,7 @@ use lib.Dec.{eqb}
 use lib.IntN.{ℤ, pos, negsuc}
 use Rattle.cosine.specs.Kernels.{tabled}
 use Rattle.analysis.specs.declared.Route.{Route}
-use Rattle.analysis.specs.declared.Route.the-variants.{Direct, Short}
+use Rattle.analysis.specs.declared.Route.the-variants.{Direct, Short, Double}
 use Rattle.analysis.specs.Analysis.{offered}
 use Rattle.text.specs.Bytes.{ascii}
 use Rattle.text.specs.Number.{isNumber, value, decimal}
@@ -26,6 +26,9 @@ word-direct = ascii "direct"
 
 abbrev pub word-short : List ℕ
 word-short = ascii "short"
+
+abbrev pub word-double : List ℕ
+word-double = ascii "double"
 
 -- ---- the length: a number of the listing's form that is one of the six, and 0 for any other bytes
 unfoldable pub lengthIn : ℤ → ℕ
@@ -48,13 +51,14 @@ saying word n = line word (decimal n ∷ [])
 unfoldable pub distanceLine : List ℕ → Route → ℕ → List ℕ → List ℕ
 distanceLine word route N text = saying word (told route N text .distance)
 
--- by the short route, where it is offered
-unfoldable pub shortLine : ℕ → List ℕ → List ℕ
-shortLine N text = cond (offered Short N) (distanceLine word-short Short N text) []
+-- the same where the route is offered, and nothing elsewhere
+unfoldable pub offeredLine : List ℕ → Route → ℕ → List ℕ → List ℕ
+offeredLine word route N text = cond (offered route N) (distanceLine word route N text) []
 
 -- a table that is taken: its coarsest step, and the distances
 unfoldable pub takenLines : ℕ → List ℕ → List ℕ
-takenLines N text = saying word-taken (coarsest (N / 2) text) ++ distanceLine word-direct Direct N text ++ shortLine N text
+takenLines N text =
+    saying word-taken (coarsest (N / 2) text) ++ distanceLine word-direct Direct N text ++ offeredLine word-short Short N text ++ offeredLine word-double Double N text
 
 -- ---- what is printed
 unfoldable pub byTable : ℕ → List ℕ → List ℕ

@@ -12,7 +12,7 @@ use lib.Signed.{ltZ}
 use Rattle.arithmetic.specs.IntegerLaws.{ints}
 use Rattle.arithmetic.specs.OrderLaws.{ltZ-true, ltZ-false}
 use Rattle.cosine.specs.Kernels.{tabled}
-use Rattle.analysis.specs.declared.Route.the-variants.{Short}
+use Rattle.analysis.specs.declared.Route.{Route}
 use Rattle.analysis.specs.Analysis.{offered}
 use Rattle.text.specs.Bytes.{lineFeed, comma}
 use Rattle.text.specs.Number.{isNumber, value, decimal}
@@ -22,7 +22,7 @@ use Rattle.text.specs.Buffers.{Put, Written}
 use Rattle.text.specs.BufferLaws.{written}
 use Rattle.steps.specs.declared.joint.Verdict.{Verdict}
 use Rattle.steps.specs.Table.{digits, verdict}
-use Rattle.table_report.specs.Report.{word-refused, word-short, lengthIn, lengthOf, refusal, saying, distanceLine, shortLine, takenLines, byTable, reportOf}
+use Rattle.table_report.specs.Report.{word-refused, lengthIn, lengthOf, refusal, saying, distanceLine, offeredLine, takenLines, byTable, reportOf}
 
 -- ---- the length
 pub in-below : (z : ℤ) → ltZ z (pos 0) ≡ true → lengthIn z ≡ 0
@@ -78,14 +78,14 @@ pub refusal-is : (code at : ℕ) → word-refused ++ (comma ∷ decimal code) ++
 unfolding refusal line more
 refusal-is code at = simp (append-assoc, append-nil)
 
--- ---- the short route's line
-pub short-none : (N : ℕ) (text : List ℕ) → offered Short N ≡ false → shortLine N text ≡ []
-unfolding shortLine
-short-none N text e = rw e
+-- ---- the line of a route that is not offered everywhere
+pub offered-none : (word : List ℕ) (route : Route) (N : ℕ) (text : List ℕ) → offered route N ≡ false → offeredLine word route N text ≡ []
+unfolding offeredLine
+offered-none word route N text e = rw e
 
-pub short-some : (N : ℕ) (text : List ℕ) → offered Short N ≡ true → shortLine N text ≡ distanceLine word-short Short N text
-unfolding shortLine
-short-some N text e = rw e
+pub offered-some : (word : List ℕ) (route : Route) (N : ℕ) (text : List ℕ) → offered route N ≡ true → offeredLine word route N text ≡ distanceLine word route N text
+unfolding offeredLine
+offered-some word route N text e = rw e
 
 -- ---- a text put at the start of a buffer in few enough bytes
 pub in-room : {text before after : List ℕ} {r : ℕ} → r ≤ length before → Put text before 0 after r → Written text before after r

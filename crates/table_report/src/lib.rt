@@ -8,7 +8,7 @@ ghost use lib.ListN.{length};
 ghost use Rattle.cosine.specs.Kernels.{tabled};
 ghost use Rattle.text.specs.Buffers.{Put, Written};
 ghost use Rattle.steps.specs.Table.{tableCode};
-ghost use Rattle.table_report.specs.Report.{lengthIn, lengthOf, distanceLine, shortLine, takenLines, reportOf};
+ghost use Rattle.table_report.specs.Report.{lengthIn, lengthOf, distanceLine, offeredLine, takenLines, reportOf};
 use analysis::Route;
 use print::put_refusal;
 use print::put_saying;
@@ -61,29 +61,37 @@ fn put_distance(
     put_saying(word, told.distance, out, at)
 }
 
-// The line of the short route, where it is offered.
-fn put_short(n: usize, table: &[u8], out: &mut [u8], at: usize) -> usize
-    requires { ⌜ at + 27 ≤ length (now out) ⌝ }
-    ensures { λ r. ⌜ Put (shortLine n (now (table .entry))) (now (out .entry)) at (now (out .exit)) r ⌝ }
-    ensures { λ r. ⌜ r ≤ at + 27 ⌝ }
+// The same, where the route is offered.
+fn put_offered(
+    word: &[u8],
+    route: Route,
+    n: usize,
+    table: &[u8],
+    out: &mut [u8],
+    at: usize,
+) -> usize
+    requires { ⌜ at + (length (now word) + 22) ≤ length (now out) ⌝ }
+    ensures { λ r. ⌜ Put (offeredLine (now (word .entry)) route n (now (table .entry))) (now (out .entry)) at (now (out .exit)) r ⌝ }
+    ensures { λ r. ⌜ r ≤ at + (length (now (word .entry)) + 22) ⌝ }
 {
-    if !checks::is_offered(Route::Short, n) {
+    if !checks::is_offered(route, n) {
         return at;
     }
-    put_distance(b"short", Route::Short, n, table, out, at)
+    put_distance(word, route, n, table, out, at)
 }
 
 // The lines of a table that is taken.
 fn put_taken(n: usize, table: &[u8], out: &mut [u8], from: usize) -> usize
     requires { ⌜ T (tabled n) × (tableCode (n / 2) (now table) ≡ 0) ⌝ }
-    requires { ⌜ from + 82 ≤ length (now out) ⌝ }
+    requires { ⌜ from + 110 ≤ length (now out) ⌝ }
     ensures { λ r. ⌜ Put (takenLines n (now (table .entry))) (now (out .entry)) from (now (out .exit)) r ⌝ }
-    ensures { λ r. ⌜ r ≤ from + 82 ⌝ }
+    ensures { λ r. ⌜ r ≤ from + 110 ⌝ }
 {
     let step = steps::coarsest(table, n / 2);
     let at = put_saying(b"taken", step, out, from);
     let at = put_distance(b"direct", Route::Direct, n, table, out, at);
-    put_short(n, table, out, at)
+    let at = put_offered(b"short", Route::Short, n, table, out, at);
+    put_offered(b"double", Route::Double, n, table, out, at)
 }
 
 // Writes what is printed for a length as it is typed and a table to the start of a buffer, and answers how many bytes that is.

@@ -2,7 +2,7 @@
 use native.Mathlib.Omega.{arith}
 use Prim.Native.Nat.{_/_, _≤_}
 use Rattle.analysis.specs.declared.Route.{Route}
-use Rattle.analysis.specs.declared.Route.the-variants.{Direct, Short}
+use Rattle.analysis.specs.declared.Route.the-variants.{Direct, Short, Double}
 use Rattle.analysis.specs.Analysis.{unitsOf}
 use Rattle.steps.specs.Table.{coarsest}
 use Rattle.steps.specs.StepLaws.{coarsest-most}
@@ -18,17 +18,18 @@ coarsest-requires c κs = let s = c .before in ((hop-some (s .args .n) (s .pre .
 units-requires : tie.Need-units-requires
 units-requires c κs = search needs
 
-few : (r : Route) → unitsOf r ≤ 16
+few : (r : Route) → unitsOf r ≤ 32
 unfolding unitsOf
 few Direct = omega arith
 few Short = omega arith
+few Double = omega arith
 
 coarse : (c : tie.After-units) → c .before .coarsest .result ≤ 65536
 coarse c =
     let s = c .before .before .before in
     rw (c .before .coarsest .ensures) (coarsest-most (s .args .n / 2) (hop-some (s .args .n) (s .pre .0)) (s .args .table .now) (s .pre .1))
 
-units-few : (c : tie.After-units) → c .units .result ≤ 16
+units-few : (c : tie.After-units) → c .units .result ≤ 32
 units-few c = rw (c .units .ensures) (few (c .before .before .before .args .route))
 
 add-result : tie.Need-add-result

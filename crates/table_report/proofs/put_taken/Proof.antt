@@ -22,8 +22,17 @@ slice-aggregate-put-distance c = search needs
 put-distance-requires : tie.Need-put-distance-requires
 put-distance-requires c κs = search needs
 
-put-short-requires : tie.Need-put-short-requires
-put-short-requires c κs = search needs
+slice-aggregate-put-offered : tie.Need-slice-aggregate-put-offered
+slice-aggregate-put-offered c = search needs
+
+put-offered-requires : tie.Need-put-offered-requires
+put-offered-requires c κs = search needs
+
+slice-aggregate-put-offered-2 : tie.Need-slice-aggregate-put-offered-2
+slice-aggregate-put-offered-2 c = search needs
+
+put-offered-requires-2 : tie.Need-put-offered-requires-2
+put-offered-requires-2 c κs = search needs
 
 same-length : tie.Need-same-length
 same-length c = search needs
@@ -31,12 +40,13 @@ same-length c = search needs
 returns : tie.Need-returns
 unfolding takenLines
 returns c =
-    let h = c .before .before in
-    let d = h .before .before .before .before in
+    let e = c .before .before in
+    let h = e .before .before .before .before .before in
+    let d = h .before .before .before .before .before in
     let y = d .before .before .before .before .before in
     let k = y .before .before .before in (
-      put-then (put-then (rw (k .coarsest .ensures) at (y .put-saying .ensures .0)) (d .put-distance .ensures .0)) (h .put-short .ensures .0),
-      omega (arith, y .put-saying .ensures .1, d .put-distance .ensures .1, h .put-short .ensures .1),
+      put-then (put-then (put-then (rw (k .coarsest .ensures) at (y .put-saying .ensures .0)) (d .put-distance .ensures .0)) (h .put-offered .ensures .0)) (e .put-offered2 .ensures .0),
+      omega (arith, y .put-saying .ensures .1, d .put-distance .ensures .1, h .put-offered .ensures .1, e .put-offered2 .ensures .1),
     )
 
 pub put-taken-spec : {M : Type 1} → statement M
@@ -48,6 +58,9 @@ put-taken-spec =
     put-saying-requires
     slice-aggregate-put-distance
     put-distance-requires
-    put-short-requires
+    slice-aggregate-put-offered
+    put-offered-requires
+    slice-aggregate-put-offered-2
+    put-offered-requires-2
     same-length
     returns)

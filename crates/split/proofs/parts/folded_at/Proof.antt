@@ -52,7 +52,7 @@ shared-slice-copy-out-result c = search needs
 
 -- the mirrored input with its sign changed, as the machine has it
 module _ (c : tie.After-result) where
-  mirrored-abs : natAbs (mirrored (c .before .before)) ≤ 2 ^ 26
+  mirrored-abs : natAbs (mirrored (c .before .before)) ≤ 2 ^ 28
   mirrored-abs = let s = c .before .before in s .pre .1 .1 .small (3 * h s - 1 - j s) (omega (arith, s .pre .0))
 
   negated : pos 0 -ℤ toZ w32 (ofZ w32 (mirrored (c .before .before))) ≡ negℤ (mirrored (c .before .before))

@@ -20,7 +20,7 @@ module _ (k : tie.After-c-at) where
   abbrev twice : ℤ
   twice = pos 2 *ℤ k .c-at .result
 
-  twice-abs : natAbs twice ≤ 2 * 2 ^ 23
+  twice-abs : natAbs twice ≤ 2 * 2 ^ 26
   twice-abs = omega (arith, abs-mul (pos 2) (k .c-at .result), k .c-at .ensures .1)
 
   twice-fits : SFits w32 twice
@@ -33,7 +33,7 @@ module _ (k : tie.After-a-at) where
   abbrev less : ℤ
   less = twice (k .before) -ℤ k .a-at .result
 
-  less-abs : natAbs less ≤ 3 * 2 ^ 23
+  less-abs : natAbs less ≤ 3 * 2 ^ 26
   less-abs = omega (arith, abs-sub (twice (k .before)) (k .a-at .result), twice-abs (k .before), k .a-at .ensures .1)
 
   less-fits : SFits w32 less

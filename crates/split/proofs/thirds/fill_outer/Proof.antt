@@ -1,82 +1,23 @@
--- `fill_outer` meets its contract. The invariant: the first i inputs are those of the part.
-use mathlib.Core.Path.{_≡_, _∙_}
-use Prim.Native.Nat.{_-_, _/_, _≤_}
-use native.Mathlib.Omega.{arith}
-use lib.ListN.{length}
-use mir.Syntax.{w32}
-use mir.Facts.{toZ-ofZ}
-use Rattle.arithmetic.specs.Lists.{at}
-use Rattle.arithmetic.specs.ListLaws.{Filled, filled-none, filled-more, filled-all}
-use Rattle.split.specs.RotationLaws.{turns}
-use Rattle.split.specs.PartLaws.{place, third, place-rotated, third-made}
+-- `fill_outer` meets its contract: a windowed block is within the limit.
+use native.Mathlib.Nat.{le-trans}
+use borrow.Author.Needs.{needs}
+use Rattle.split.specs.RotationLaws.{limit-least}
+use Rattle.split.specs.PartLaws.{third-made}
 use Rattle.split.proofs.thirds.fill_outer.Statement.{statement}
 use Rattle.split.proofs.thirds.fill_outer.Tie as tie
 
-abbrev Inv-loop : tie.InvT-loop
-Inv-loop n which y p q w₀ i₀ i-end w i = (i ≤ length w₀) × Filled (place which n (at y)) i w w₀
+outer-third-requires : tie.Need-outer-third-requires
+outer-third-requires c κs =
+    let q = c .before .pre in
+    (q .0 .all, (record { small = λ i l. le-trans (q .0 .small .small i l) (limit-least (c .before .args .n)) }, q .1))
 
-abbrev μ-loop : tie.MeasureT-loop
-μ-loop n which y p q w₀ i₀ i-end w i = length w₀ - i
+same-length : tie.Need-same-length
+same-length c = search needs
 
-loop-holds : tie.Need-loop-holds Inv-loop μ-loop
-loop-holds c = let a = c .args in (omega arith, filled-none (place (a .which) (a .n) (at (a .y .now))) (a .w .now))
-
-outer-at-requires : tie.Need-outer-at-requires Inv-loop μ-loop
-outer-at-requires c κs =
-    let s = c .before .before in
-    let q = s .pre in
-    (omega (arith, q .0 .all, q .1 .1), (q .0 .small, rw (q .0 .all, q .1 .0 .p-is, q .1 .0 .q-is) (turns (s .args .which) (s .args .n))))
-
-mul-t11 : tie.Need-mul-t11 Inv-loop μ-loop
-mul-t11 c = omega arith
-
-slice-set-from-w : tie.Need-slice-set-from-w Inv-loop μ-loop
-slice-set-from-w c = omega (arith, c .before .before .loop .inv .1 .room)
-
-add-i : tie.Need-add-i Inv-loop μ-loop
-add-i c = omega arith
-
-loop-less : tie.Need-loop-less Inv-loop μ-loop
-loop-less c = omega arith
-
-loop-again : tie.Need-loop-again Inv-loop μ-loop
-loop-again c =
-    let l = c .before .before in
-    let a = l .before .args in
-    let q = l .before .pre in (
-      omega arith,
-      filled-more (place (a .which) (a .n) (at (a .y .now))) (l .loop .i) (l .loop .w) (a .w .now) _ (l .loop .inv .1)
-          (omega (arith, l .loop .inv .1 .room))
-          (toZ-ofZ {w = w32} {z = c .outer-at .result} (record { sfits = c .outer-at .ok })
-          ∙ c .outer-at .ensures
-          ∙ rw (q .0 .all, q .1 .0 .p-is, q .1 .0 .q-is) (place-rotated (a .n) (at (a .y .now)) (a .which) (q .1 .0 .outer) (l .loop .i) (omega (arith, q .1 .1)))),
-    )
-
-same-length : tie.Need-same-length Inv-loop μ-loop
-same-length c = c .before .loop .inv .1 .room
-
-returns : tie.Need-returns Inv-loop μ-loop
-unfolding third
+returns : tie.Need-returns
 returns c =
-    let s = c .before .before in
-    let a = s .args in
-    let q = s .pre in
-    let e : c .before .loop .i ≡ a .n / 3 = omega (arith, q .1 .1) in
-    third-made (a .which) (a .n) (a .y .now) (c .before .loop .w) (q .0)
-    (filled-all (place (a .which) (a .n) (at (a .y .now))) (a .n / 3) (c .before .loop .w) (a .w .now) (rw e at (c .before .loop .inv .1)) (q .1 .1))
+    let s = c .before .before .before in
+    third-made (s .args .which) (s .args .n) (s .args .y .now) _ (s .pre .0) (c .before .outer-third .ensures)
 
 pub fill-outer-spec : {M : Type 1} → statement M
-fill-outer-spec =
-    tie.close
-    (tie.spec
-    Inv-loop
-    μ-loop
-    loop-holds
-    outer-at-requires
-    mul-t11
-    slice-set-from-w
-    add-i
-    loop-less
-    loop-again
-    same-length
-    returns)
+fill-outer-spec = tie.close (tie.spec outer-third-requires same-length returns)

@@ -19,7 +19,7 @@ b-at-requires : tie.Need-b-at-requires
 b-at-requires c κs = search needs
 
 module _ (k : tie.After-b-at) where
-  less-abs : natAbs (k .before .a-at .result -ℤ k .b-at .result) ≤ 2 * 2 ^ 23
+  less-abs : natAbs (k .before .a-at .result -ℤ k .b-at .result) ≤ 2 * 2 ^ 26
   less-abs = omega (arith, abs-sub (k .before .a-at .result) (k .b-at .result), k .before .a-at .ensures .1, k .b-at .ensures .1)
 
   less-fits : SFits w32 (k .before .a-at .result -ℤ k .b-at .result)

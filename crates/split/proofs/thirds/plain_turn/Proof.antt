@@ -1,4 +1,4 @@
--- `plain_turn` meets its contract: each product is at most 2^54.
+-- `plain_turn` meets its contract: each product is at most 2^55.
 use Prim.Native.Nat.{_*_, _^_, _≤_}
 use native.Mathlib.Omega.{arith}
 use lib.IntN.{ℤ, pos, natAbs, _+ℤ_, _-ℤ_, _*ℤ_}
@@ -42,10 +42,10 @@ module _ (c : tie.Start) where
   q-fits : SFits w64 (q -ℤ pos (2 ^ 27))
   q-fits = sfits-abs (q -ℤ pos (2 ^ 27)) (omega (arith, c .pre .1 .1 .1))
 
-  first≤ : natAbs (e *ℤ (p -ℤ pos (2 ^ 27))) ≤ 2 ^ 27 * 2 ^ 27
+  first≤ : natAbs (e *ℤ (p -ℤ pos (2 ^ 27))) ≤ 2 ^ 28 * 2 ^ 27
   first≤ = abs-mul-le e (p -ℤ pos (2 ^ 27)) (c .pre .0) (c .pre .1 .1 .0)
 
-  second≤ : natAbs (f *ℤ (q -ℤ pos (2 ^ 27))) ≤ 2 ^ 27 * 2 ^ 27
+  second≤ : natAbs (f *ℤ (q -ℤ pos (2 ^ 27))) ≤ 2 ^ 28 * 2 ^ 27
   second≤ = abs-mul-le f (q -ℤ pos (2 ^ 27)) (c .pre .1 .0) (c .pre .1 .1 .1)
 
   first-fits : SFits w64 (e *ℤ (p -ℤ pos (2 ^ 27)))

@@ -1,17 +1,18 @@
--- `rotated_at` meets its contract: e and f are turned by their cosines, which keeps them below 2^52, and 2^26 once divided.
+-- `rotated_at` meets its contract: e and f are turned by their cosines, which keeps them below 2^55, and 2^29 once divided.
 use mathlib.Core.Path.{_≡_, _∙_}
-use Prim.Native.Nat.{ℕ, _<_, _^_, _≤_}
+use Prim.Native.Nat.{ℕ, _*_, _<_, _^_, _≤_}
+use native.Mathlib.Nat.{le-trans}
 use native.Mathlib.Omega.{arith}
 use lib.ListN.{length}
 use lib.IntN.{ℤ, pos, natAbs, _+ℤ_, _-ℤ_, _*ℤ_}
 use mir.Syntax.{w32, w64}
 use mir.Val.{SFits, toZ, ofZ}
 use mir.Facts.{toZ-ofZ}
-use Rattle.arithmetic.specs.Lists.{at}
+use Rattle.arithmetic.specs.Lists.{at, Small}
 use Rattle.arithmetic.specs.OrderLaws.{sfits-abs}
 use Rattle.split.specs.ShortRoute.{e, f}
 use Rattle.split.specs.ShortSizeLaws.{e-size, f-size}
-use Rattle.split.specs.RotationLaws.{rotated, turn-size, rotated-size}
+use Rattle.split.specs.RotationLaws.{rotated, limit, limit-most, turn-size, rotated-size}
 use borrow.Author.Needs.{needs}
 use Rattle.split.proofs.thirds.rotated_at.Statement.{statement}
 use Rattle.split.proofs.thirds.rotated_at.Tie as tie
@@ -32,14 +33,20 @@ module _ (c : tie.Start) where
   abbrev q : ℤ
   q = at (c .args .q .now) n
 
-  small : (i : ℕ) → i < N → natAbs (u i) ≤ 2 ^ 23
+  abbrev Q : ℕ
+  Q = limit (c .args .size)
+
+  small : (i : ℕ) → i < N → natAbs (u i) ≤ Q
   small i l = c .pre .1 .0 .small i l
 
+  within : Small (c .args .y .now) (2 ^ 26)
+  within = record { small = λ i l. le-trans (small i l) (limit-most (c .args .size)) }
+
 e-at-requires : tie.Need-e-at-requires
-e-at-requires c κs = (c .pre .0, c .pre .1 .0)
+e-at-requires c κs = (c .pre .0, within c)
 
 f-at-requires : tie.Need-f-at-requires
-f-at-requires c κs = let s = c .before in (s .pre .0, s .pre .1 .0)
+f-at-requires c κs = let s = c .before in (s .pre .0, within s)
 
 mul-turn : tie.Need-mul-turn
 mul-turn c = search needs
@@ -74,8 +81,8 @@ turn-requires : tie.Need-turn-requires
 turn-requires c κs =
     let x = s c in
     rw (e-is c, f-is c, p-is c, q-is c) (
-      omega (arith, e-size (N x) (u x) (small x) (n x) (x .pre .0)),
-      (omega (arith, f-size (N x) (u x) (small x) (n x) (x .pre .0)), (omega (arith, x .pre .1 .1 .p-small (n x) (x .pre .0)), x .pre .1 .1 .q-small (n x) (x .pre .0))),
+      omega (arith, e-size (N x) (u x) (Q x) (small x) (n x) (x .pre .0)),
+      (omega (arith, f-size (N x) (u x) (Q x) (small x) (n x) (x .pre .0)), (omega (arith, x .pre .1 .1 .p-small (n x) (x .pre .0)), x .pre .1 .1 .q-small (n x) (x .pre .0))),
     )
 
 module _ (c : tie.After-turn) where
@@ -85,15 +92,15 @@ module _ (c : tie.After-turn) where
   abbrev total : ℤ
   total = e (N x) (u x) (n x) *ℤ (p x -ℤ pos (2 ^ 27)) +ℤ f (N x) (u x) (n x) *ℤ (q x -ℤ pos (2 ^ 27))
 
-  total-abs : natAbs total ≤ 2 ^ 52
-  total-abs = turn-size (N x) (u x) (small x) (x .args .p .now) (x .args .q .now) (x .pre .1 .1) (n x) (x .pre .0)
+  total-abs : natAbs total ≤ 2 ^ 26 * (8 * Q x)
+  total-abs = turn-size (N x) (u x) (Q x) (small x) (x .args .p .now) (x .args .q .now) (x .pre .1 .1) (n x) (x .pre .0)
 
   total-is : toZ w64 (ofZ w64 (c .turn .result)) ≡ total
   total-is = toZ-ofZ {w = w64} {z = c .turn .result} (record { sfits = c .turn .ok }) ∙ c .turn .ensures ∙ rw (e-is (c .before), f-is (c .before), p-is (c .before), q-is (c .before))
 
 rnd-shift-requires : tie.Need-rnd-shift-requires
 rnd-shift-requires c κs =
-    let h : natAbs (toZ w64 (ofZ w64 (c .turn .result))) ≤ 2 ^ 62 = rw (total-is c) (omega (arith, total-abs c)) in
+    let h : natAbs (toZ w64 (ofZ w64 (c .turn .result))) ≤ 2 ^ 62 = rw (total-is c) (omega (arith, total-abs c, limit-most (x c .args .size))) in
     search needs
 
 module _ (c : tie.After-rnd-shift) where
@@ -104,8 +111,8 @@ module _ (c : tie.After-rnd-shift) where
   unfolding rotated
   is = c .rnd-shift .ensures ∙ rw (total-is (c .before))
 
-  size : natAbs (c .rnd-shift .result) ≤ 2 ^ 26
-  size = rw is (rotated-size (N z) (u z) (small z) (z .args .p .now) (z .args .q .now) (z .pre .1 .1) (n z) (z .pre .0))
+  size : natAbs (c .rnd-shift .result) ≤ 2 ^ 29
+  size = rw is (omega (arith, rotated-size (N z) (u z) (Q z) (small z) (z .args .p .now) (z .args .q .now) (z .pre .1 .1) (n z) (z .pre .0), limit-most (z .args .size)))
 
   fits : SFits w32 (c .rnd-shift .result)
   fits = sfits-abs (c .rnd-shift .result) (omega (arith, size))

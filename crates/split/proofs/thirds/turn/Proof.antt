@@ -1,13 +1,17 @@
--- `turn` meets its contract, as both ways do.
+-- `turn` meets its contract, as both ways do: e and f are within the limit of either.
 use mathlib.Core.Path.{_∙_}
-use borrow.Author.Needs.{needs}
+use native.Mathlib.Omega.{arith}
 use mir.Syntax.{w64}
 use mir.Facts.{toZ-ofZ}
+use Rattle.split.specs.RotationLaws.{limit-most, limit-long}
 use Rattle.split.proofs.thirds.turn.Statement.{statement}
 use Rattle.split.proofs.thirds.turn.Tie as tie
 
 plain-turn-requires : tie.Need-plain-turn-requires
-plain-turn-requires c κs = search needs
+plain-turn-requires c κs =
+    let s = c .before in
+    let k = limit-most (s .args .size) in
+    rw (toZ-ofZ (s .fits .e), toZ-ofZ (s .fits .f), toZ-ofZ (s .fits .p), toZ-ofZ (s .fits .q)) (omega (arith, s .pre .0, k), (omega (arith, s .pre .1 .0, k), s .pre .1 .1))
 
 returns : tie.Need-returns
 returns c =
@@ -17,7 +21,10 @@ returns c =
     ∙ rw (toZ-ofZ (s .fits .e), toZ-ofZ (s .fits .f), toZ-ofZ (s .fits .p), toZ-ofZ (s .fits .q))
 
 lifted-turn-requires : tie.Need-lifted-turn-requires
-lifted-turn-requires c κs = search needs
+lifted-turn-requires c κs =
+    let s = c .before in
+    let k = limit-long (s .args .size) (c .if1 .left) in
+    rw (toZ-ofZ (s .fits .e), toZ-ofZ (s .fits .f), toZ-ofZ (s .fits .p), toZ-ofZ (s .fits .q)) (omega (arith, s .pre .0, k), (omega (arith, s .pre .1 .0, k), s .pre .1 .1))
 
 returns-2 : tie.Need-returns-2
 returns-2 c =
