@@ -2,8 +2,9 @@
 What a coefficient moves by is held to half its step, and what is played back to the distance that its tables tell."""
 from functools import reduce
 
-from bank import COEFFICIENT_LIMIT, DOUBLE_LENGTHS, LENGTHS, LONG, SHORT, SHORT_LENGTHS, STATE, STORAGE, analyse, fresh, state_of, stream_fresh, tail_limit
+from bank import COEFFICIENT_LIMIT, LENGTHS, LONG, SHORT, STATE, STORAGE, analyse, fresh, state_of, stream_fresh, tail_limit
 from noise import ROOM, noise, random
+from played import route_of, sound
 from steps import ROUTE_NAMES, dequantise, quantise, report, steps, stream_step_levels, told, told_distance, verdict
 
 TEXT = 2048
@@ -314,28 +315,13 @@ def forged_in_place(N, M, v):
         offer_in_place(state[:size], b, left, LONG, M, kind, x, c, M)
 
 
-def sound(N, h):
-    """Hop h of what is played back."""
-    r, span, x = 300 * N + h, SOUND_SPANS[h % 4], []
-    for _ in range(N // 2):
-        r = random(r)
-        x.append((r >> 16) % (2 * span) - span if span else 32767 if r >> 16 & 1 else -32768)
-    return x
-
-
-def route_of(N, b):
-    if b % 3 == 2 and N in SHORT_LENGTHS:
-        return "short"
-    return "double" if b % 3 == 1 and N in DOUBLE_LENGTHS else "direct"
-
-
 def played(N, M):
     """Blocks analysed, stored as levels, each by its own table, and played back: within the distance told for the coarser table of the two blocks of a hop,
     by the route that tells more."""
     state = state_of(fresh(N)[1])
     for b in range(BLOCKS):
-        shapes, hop, data = JOINTS[b : b + 2], sound(N, b), table_of(M, b % 5)
-        number, X = analyse(route_of(N, b), N, *shapes, hop + sound(N, b + 1), M)
+        shapes, hop, data = JOINTS[b : b + 2], sound(N, b, SOUND_SPANS), table_of(M, b % 5)
+        number, X = analyse(route_of(N, b), N, *shapes, hop + sound(N, b + 1, SOUND_SPANS), M)
         assert number == 0
         number, levels = quantised(N, data, X, M, M)
         assert number == 0

@@ -2,7 +2,8 @@
 from functools import reduce
 
 import halves
-from bank import DOUBLE_LENGTHS, LENGTHS, LONG, SHAPES, SHORT, SHORT_LENGTHS, STATE, STORAGE, UNITS, K, analyse, fresh, next_hop, state_of, step, stream_fresh, stream_step, tail_limit, window
+from bank import LENGTHS, LONG, SHAPES, SHORT, STATE, STORAGE, UNITS, K, analyse, fresh, next_hop, state_of, step, stream_fresh, stream_step, tail_limit, window
+from played import route_of, sound
 
 ROOM = 112
 SHOWN = 40
@@ -183,27 +184,12 @@ def orders(N, M):
         beside(alike(N, expected, joints(expected)[0], 0), M, order)
 
 
-def sound(N, h):
-    """Hop h of what is played back."""
-    r, span, x = 300 * N + h, SOUND_SPANS[h % 4], []
-    for _ in range(N // 2):
-        r = (r * 1664525 + 1013904223) % 2**32
-        x.append((r >> 16) % (2 * span) - span if span else 32767 if r >> 16 & 1 else -32768)
-    return x
-
-
-def route_of(N, b):
-    if b % 3 == 2 and N in SHORT_LENGTHS:
-        return "short"
-    return "double" if b % 3 == 1 and N in DOUBLE_LENGTHS else "direct"
-
-
 def played(N, M):
     """Blocks analysed and played back, each after one that has the other left shape: what P7 says of any mixture, with P12's distance."""
     stream = fresh(N)[1]
     for b in range(PLAYED):
-        hop = sound(N, b)
-        number, X = analyse(route_of(N, b), N, *joints(b), hop + sound(N, b + 1), M)
+        hop = sound(N, b, SOUND_SPANS)
+        number, X = analyse(route_of(N, b), N, *joints(b), hop + sound(N, b + 1, SOUND_SPANS), M)
         left, right = joints(b)
         wrong = step(stream, b, other(left), right, X, M)
         assert wrong == (8, None, stream)
