@@ -24,7 +24,7 @@
 #include <libavutil/tx.h>
 #endif
 
-/* the most hops of a recording, the most blocks of a batch, and room for its coefficients */
+/* the most hops of a recording, the most blocks of a batch, and room for its coefficients or for the padded recording that it is */
 enum { LONGEST = 4095, MOST_BLOCKS = 512, BATCH = 4096 };
 
 /* blocks of a batch, for some tens of microseconds at each length; a sixteenth of them still is a recording */
@@ -32,8 +32,9 @@ static const size_t batches[LENGTHS] = {MOST_BLOCKS, 256, 128, 64, 32, 32};
 
 /* For each length a recording of random samples between two hops of zeros, its coefficients by direct analysis at long joints, those of a batch at
  * short joints, those of a batch by frequency, a step table, plain C's levels of a batch by it, what they come back as, the sound of that, and what
- * moved samples in it, and room for every result. The last hop of a batch is zeros too, so that its blocks are those of a recording of its own, of
- * one hop fewer. Sound begins with the run-in, so that each sample returns at its place in the padded recording. */
+ * moved samples in it, a batch of silence that ends in a click, and room for every result. The last hop of a batch is zeros too, so that its blocks
+ * are those of a recording of its own, of one hop fewer. Sound begins with the run-in, so that each sample returns at its place in the padded
+ * recording. */
 static int16_t all_padded[LENGTHS][(LONGEST + 2) * MOST_M], *padded;
 static int32_t all_spectra[LENGTHS][(LONGEST + 1) * MOST_M], *spectra;
 static int32_t all_short_joints[LENGTHS][BATCH], *short_joints;
@@ -44,23 +45,32 @@ static int32_t all_levels[LENGTHS][BATCH], *levels;
 static int32_t all_restored[LENGTHS][BATCH], *restored;
 static int16_t all_restored_sound[LENGTHS][BATCH], *restored_sound;
 static uint32_t all_movers[LENGTHS][3 * MOST_BLOCKS], *expected_movers;
+static int16_t all_late_clicks[LENGTHS][BATCH], *late_click;
 static int32_t coefficients[(LONGEST + 1) * MOST_M];
 static int16_t sound[(LONGEST + 1) * MOST_M];
-static uint32_t movers[3 * MOST_BLOCKS];
+static uint32_t movers[3 * MOST_BLOCKS], found[3];
 static int64_t tail[MOST_M];
 
 static uint32_t refused;
 
+/* The searches that are timed, by a recording, the allowed distance and the budget. By step 1024 every recording returns within 24 of its own, so the
+ * first trial passes, over all blocks. No coefficient of a lone click is above 64 times its height, so by steps of more than 128 times that every
+ * level is 0 and the click does not return: with less allowed, each trial fails, and not before the last sample. */
+enum { COARSEST = 1024, CLICK = 7, SURE = 32 * (CLICK - 1) + 15 };
+#define PASSING padded, 31, 1
+#define FAILING(trials) late_click, CLICK - 1, trials
+
 /* A call over a batch, and whether it is there and takes length l: a block is refused with 1 where its route, direct, short or double, does not. */
-#define CALL(whose, call, route, ...)                                               \
-    static void whose##_##call(size_t n, size_t blocks)                             \
+#define CALL_AS(name, whose, call, route, ...)                                      \
+    static void whose##_##name(size_t n, size_t blocks)                             \
     {                                                                               \
         refused |= whose.call(n, blocks, __VA_ARGS__);                              \
     }                                                                               \
-    static int whose##_offers_##call(int l)                                         \
+    static int whose##_offers_##name(int l)                                         \
     {                                                                               \
         return whose.call && whose.route(lengths[l], 1, padded, coefficients) != 1; \
     }
+#define CALL(whose, call, route, ...) CALL_AS(call, whose, call, route, __VA_ARGS__)
 
 #define CALLS(whose)                                                                  \
     CALL(whose, direct, direct, padded, coefficients)                                 \
@@ -84,7 +94,12 @@ static uint32_t refused;
     CALL(whose, recording_double_by_frequency, by_double_route, padded, coefficients) \
     CALL(whose, synthesis_by_frequency, direct, by_frequency, sound)                  \
     CALL(whose, reordered_by_block, direct, by_frequency, coefficients)               \
-    CALL(whose, reordered_by_frequency, direct, spectra, coefficients)
+    CALL(whose, reordered_by_frequency, direct, spectra, coefficients)                \
+    CALL(whose, there_and_back, direct, padded, coefficients, sound)                  \
+    CALL_AS(passing_trial, whose, coarsest_step, direct, PASSING, found)              \
+    CALL_AS(failing_trial, whose, coarsest_step, direct, FAILING(1), found)           \
+    CALL_AS(failing_10_trials, whose, coarsest_step, direct, FAILING(10), found)      \
+    CALL_AS(failing_100_trials, whose, coarsest_step, direct, FAILING(100), found)
 
 CALLS(library)
 #ifdef BEFORE
@@ -136,6 +151,18 @@ CALLS(before)
         }                                                                                                                          \
     }
 
+#define PLAIN_SEARCH(name, variant, ...)                                      \
+    static void run_##variant##_##name(size_t n, size_t blocks)               \
+    {                                                                         \
+        variant##_coarsest_step(n, blocks - 1, __VA_ARGS__, found);           \
+    }
+
+#define PLAIN_SEARCHES(variant)                                               \
+    PLAIN_SEARCH(passing_trial, variant, PASSING)                             \
+    PLAIN_SEARCH(failing_trial, variant, FAILING(1))                          \
+    PLAIN_SEARCH(failing_10_trials, variant, FAILING(10))                     \
+    PLAIN_SEARCH(failing_100_trials, variant, FAILING(100))
+
 PLAIN_ANALYSIS(plain_o3_analyse_direct)
 PLAIN_ANALYSIS(plain_o3_analyse_folded)
 PLAIN_ANALYSIS(plain_o3_analyse_short)
@@ -156,6 +183,8 @@ PLAIN_STEP_LEVELS(plain_o3_step_levels)
 PLAIN_STEP_LEVELS(plain_native_step_levels)
 PLAIN_LARGEST_SHARE(plain_o3_largest_share)
 PLAIN_LARGEST_SHARE(plain_native_largest_share)
+PLAIN_SEARCHES(plain_o3)
+PLAIN_SEARCHES(plain_native)
 
 static int plain_offers(int l)
 {
@@ -291,34 +320,44 @@ static void avtx_synthesis(size_t n, size_t blocks)
 }
 #endif
 
-/* What a contender's result is held to before it is timed, numbers, sound behind the run-in, or what is named, and how far it may be from it. */
+/* What a contender's result is held to before it is timed, numbers, sound behind the run-in, what is named, or what a search finds (step, trials,
+ * untried), how many of them a block has, 0 standing for M, and how far it may be from them. From THERE_AND_BACK on they are those of the coarsest
+ * step, which has a table of its own. */
 enum result {
     COEFFICIENTS, NEAR_COEFFICIENTS, DOUBLE_COEFFICIENTS, FLOAT_COEFFICIENTS, SHORT_JOINTS, NEAR_SHORT_JOINTS, DOUBLE_SHORT_JOINTS, SOUND, FLOAT_SOUND,
-    LEVELS, RESTORED, RESTORED_SOUND, MOVERS, IN_BANDS, NEAR_IN_BANDS, DOUBLE_IN_BANDS
+    LEVELS, RESTORED, RESTORED_SOUND, MOVERS, IN_BANDS, NEAR_IN_BANDS, DOUBLE_IN_BANDS, THERE_AND_BACK, PASSED, FAILED, FAILED_10, FAILED_100
 };
 
+#define FAILED_AFTER(trials) {SURE, trials, COARSEST - trials - SURE}
 static const struct {
     int32_t **numbers;
     int16_t **sound;
     uint32_t **movers;
+    size_t each;
+    uint32_t found[3];
     long apart;
 } expected[] = {
-    [COEFFICIENTS] = {&spectra, NULL, NULL, 0},
-    [NEAR_COEFFICIENTS] = {&spectra, NULL, NULL, 16},
-    [DOUBLE_COEFFICIENTS] = {&spectra, NULL, NULL, 32},
-    [FLOAT_COEFFICIENTS] = {&spectra, NULL, NULL, 64},
-    [SHORT_JOINTS] = {&short_joints, NULL, NULL, 0},
-    [NEAR_SHORT_JOINTS] = {&short_joints, NULL, NULL, 16},
-    [DOUBLE_SHORT_JOINTS] = {&short_joints, NULL, NULL, 32},
-    [SOUND] = {NULL, &padded, NULL, 0},
-    [FLOAT_SOUND] = {NULL, &padded, NULL, 1},
-    [LEVELS] = {&levels, NULL, NULL, 0},
-    [RESTORED] = {&restored, NULL, NULL, 0},
-    [RESTORED_SOUND] = {NULL, &restored_sound, NULL, 0},
-    [MOVERS] = {NULL, NULL, &expected_movers, 0},
-    [IN_BANDS] = {&by_frequency, NULL, NULL, 0},
-    [NEAR_IN_BANDS] = {&by_frequency, NULL, NULL, 16},
-    [DOUBLE_IN_BANDS] = {&by_frequency, NULL, NULL, 32},
+    [COEFFICIENTS] = {.numbers = &spectra},
+    [NEAR_COEFFICIENTS] = {.numbers = &spectra, .apart = 16},
+    [DOUBLE_COEFFICIENTS] = {.numbers = &spectra, .apart = 32},
+    [FLOAT_COEFFICIENTS] = {.numbers = &spectra, .apart = 64},
+    [SHORT_JOINTS] = {.numbers = &short_joints},
+    [NEAR_SHORT_JOINTS] = {.numbers = &short_joints, .apart = 16},
+    [DOUBLE_SHORT_JOINTS] = {.numbers = &short_joints, .apart = 32},
+    [SOUND] = {.sound = &padded},
+    [FLOAT_SOUND] = {.sound = &padded, .apart = 1},
+    [LEVELS] = {.numbers = &levels},
+    [RESTORED] = {.numbers = &restored},
+    [RESTORED_SOUND] = {.sound = &restored_sound},
+    [MOVERS] = {.movers = &expected_movers, .each = 3},
+    [IN_BANDS] = {.numbers = &by_frequency},
+    [NEAR_IN_BANDS] = {.numbers = &by_frequency, .apart = 16},
+    [DOUBLE_IN_BANDS] = {.numbers = &by_frequency, .apart = 32},
+    [THERE_AND_BACK] = {.sound = &padded},
+    [PASSED] = {.found = {COARSEST, 1, 0}},
+    [FAILED] = {.found = FAILED_AFTER(1)},
+    [FAILED_10] = {.found = FAILED_AFTER(10)},
+    [FAILED_100] = {.found = FAILED_AFTER(100)},
 };
 
 struct contender {
@@ -333,6 +372,13 @@ struct contender {
 };
 
 static struct contender contenders[] = {
+/* rows of the library and, where there is one, of the earlier archive; rows of either build of plain C */
+#ifdef BEFORE
+#define LIBRARIES(ROWS) ROWS("library", library), ROWS("before", before)
+#else
+#define LIBRARIES(ROWS) ROWS("library", library)
+#endif
+#define VARIANTS(ROWS) ROWS(plain_o3, "-O3", 0), ROWS(plain_native, "-O3 -march=native", 1)
 #define ROW(name, whose, call, result) {name, whose##_##call, whose##_offers_##call, result, 0, {0}, {0}}
 #define ANALYSES(name, whose)                                                                       \
     ROW(name ", direct", whose, direct, COEFFICIENTS),                                              \
@@ -361,14 +407,22 @@ static struct contender contenders[] = {
     ROW(name ", recording, synthesis, by frequency", whose, synthesis_by_frequency, SOUND),                     \
     ROW(name ", recording, reordered by block", whose, reordered_by_block, COEFFICIENTS),                       \
     ROW(name ", recording, reordered by frequency", whose, reordered_by_frequency, IN_BANDS)
+#define IN_SEARCHES(name, whose)                                                            \
+    ROW(name ", recording, there and back", whose, there_and_back, THERE_AND_BACK),         \
+    ROW(name ", a trial that passes", whose, passing_trial, PASSED),                        \
+    ROW(name ", 1 trial that fails", whose, failing_trial, FAILED),                         \
+    ROW(name ", 10 trials that fail", whose, failing_10_trials, FAILED_10),                 \
+    ROW(name ", 100 trials that fail", whose, failing_100_trials, FAILED_100)
 #define PLAIN_ON_LEVELS(variant, options, native)                                                                     \
     {"plain C, quantise, " options, run_##variant##_quantise, plain_offers, LEVELS, native, {0}, {0}},                \
     {"plain C, dequantise, " options, run_##variant##_dequantise, plain_offers, RESTORED, native, {0}, {0}},          \
     {"plain C, step on levels, " options, run_##variant##_step_levels, plain_offers, RESTORED_SOUND, native, {0}, {0}}
-    ANALYSES("library", library),
-#ifdef BEFORE
-    ANALYSES("before", before),
-#endif
+#define PLAIN_IN_SEARCHES(variant, options, native)                                                                           \
+    {"plain C, a trial that passes, " options, run_##variant##_passing_trial, plain_offers, PASSED, native, {0}, {0}},        \
+    {"plain C, 1 trial that fails, " options, run_##variant##_failing_trial, plain_offers, FAILED, native, {0}, {0}},         \
+    {"plain C, 10 trials that fail, " options, run_##variant##_failing_10_trials, plain_offers, FAILED_10, native, {0}, {0}}, \
+    {"plain C, 100 trials that fail, " options, run_##variant##_failing_100_trials, plain_offers, FAILED_100, native, {0}, {0}}
+    LIBRARIES(ANALYSES),
     {"plain C, direct, -O3", run_plain_o3_analyse_direct, plain_offers, COEFFICIENTS, 0, {0}, {0}},
     {"plain C, folded, -O3", run_plain_o3_analyse_folded, plain_offers, COEFFICIENTS, 0, {0}, {0}},
     {"plain C, short route, -O3", run_plain_o3_analyse_short, plain_offers_short, NEAR_COEFFICIENTS, 0, {0}, {0}},
@@ -383,10 +437,7 @@ static struct contender contenders[] = {
 #ifdef HAVE_AVTX
     {"FFmpeg av_tx MDCT (float)", avtx_analysis, avtx_offers, FLOAT_COEFFICIENTS, 0, {0}, {0}},
 #endif
-    SYNTHESES("library", library),
-#ifdef BEFORE
-    SYNTHESES("before", before),
-#endif
+    LIBRARIES(SYNTHESES),
     {"plain C, step, direct, -O3", run_plain_o3_step_direct, plain_offers, SOUND, 0, {0}, {0}},
     {"plain C, step, folded, -O3", run_plain_o3_step_folded, plain_offers, SOUND, 0, {0}, {0}},
     {"plain C, step, direct, -O3 -march=native", run_plain_native_step_direct, plain_offers, SOUND, 1, {0}, {0}},
@@ -397,20 +448,14 @@ static struct contender contenders[] = {
 #ifdef HAVE_AVTX
     {"FFmpeg av_tx MDCT (float), step", avtx_synthesis, avtx_offers, FLOAT_SOUND, 0, {0}, {0}},
 #endif
-    ON_LEVELS("library", library),
-#ifdef BEFORE
-    ON_LEVELS("before", before),
-#endif
-    PLAIN_ON_LEVELS(plain_o3, "-O3", 0),
-    PLAIN_ON_LEVELS(plain_native, "-O3 -march=native", 1),
-    ON_SHARES("library", library),
-    IN_ORDERS("library", library),
-#ifdef BEFORE
-    ON_SHARES("before", before),
-    IN_ORDERS("before", before),
-#endif
+    LIBRARIES(ON_LEVELS),
+    VARIANTS(PLAIN_ON_LEVELS),
+    LIBRARIES(ON_SHARES),
+    LIBRARIES(IN_ORDERS),
     {"plain C, largest share, -O3", run_plain_o3_largest_share, plain_offers, MOVERS, 0, {0}, {0}},
     {"plain C, largest share, -O3 -march=native", run_plain_native_largest_share, plain_offers, MOVERS, 1, {0}, {0}},
+    LIBRARIES(IN_SEARCHES),
+    VARIANTS(PLAIN_IN_SEARCHES),
 };
 
 enum { CONTENDERS = sizeof contenders / sizeof contenders[0] };
@@ -460,6 +505,7 @@ static void prepare(void)
         for (size_t b = 0; b < batches[l]; b++)
             plain_o3_analyse_direct(n, b > 0, 1, all_padded[l] + b * m, all_short_joints[l] + b * m);
         put_by_frequency(m, batches[l], all_spectra[l], all_by_frequency[l]);
+        all_late_clicks[l][batches[l] * m - 1] = CLICK;
         prepare_levels(l);
         for (size_t i = 0; i < n; i++)
             windows[l][i] = (float)sin(3.141592653589793 * (double)(2 * i + 1) / (double)(2 * n));
@@ -485,6 +531,7 @@ static void turn_to(int l)
     restored = all_restored[l];
     restored_sound = all_restored_sound[l];
     expected_movers = all_movers[l];
+    late_click = all_late_clicks[l];
     window = windows[l];
 #ifdef HAVE_FFTW
     plan = plans[l];
@@ -507,19 +554,28 @@ static void prepare_movers(void)
     }
 }
 
+/* Whether a step is found. */
+static int is_search(enum result result)
+{
+    return expected[result].found[0] > 0;
+}
+
 /* How far number i of a result is from what is expected. */
 static long off(enum result result, size_t i)
 {
     int16_t **heard = expected[result].sound;
     if (expected[result].movers)
         return labs((long)movers[i] - (long)(*expected[result].movers)[i]);
+    if (is_search(result))
+        return labs((long)found[i] - (long)expected[result].found[i]);
     return labs(heard ? (long)sound[i] - (*heard)[i] : (long)coefficients[i] - (*expected[result].numbers)[i]);
 }
 
 /* Runs a contender's batch once, where it is offered, and holds its result to what is expected. */
 static void verify(struct contender *c, int l)
 {
-    size_t n = lengths[l], m = n / 2, blocks = batches[l], numbers = expected[c->result].movers ? 3 : m;
+    size_t n = lengths[l], m = n / 2, blocks = batches[l], each = expected[c->result].each;
+    size_t end = is_search(c->result) ? 3 : blocks * (each ? each : m);
     int wrong = 0;
     c->offered[l] = c->offers(l);
     if (!c->offered[l])
@@ -527,14 +583,21 @@ static void verify(struct contender *c, int l)
     memset(coefficients, 0x55, sizeof coefficients);
     memset(sound, 0x55, sizeof sound);
     memset(movers, 0x55, sizeof movers);
+    memset(found, 0x55, sizeof found);
     refused = 0;
     c->run(n, blocks);
-    for (size_t i = expected[c->result].sound ? m : 0; i < blocks * numbers; i++)
+    for (size_t i = expected[c->result].sound ? m : 0; i < end; i++)
         wrong |= off(c->result, i) > expected[c->result].apart;
     if (wrong || refused) {
         fprintf(stderr, "bench: %s gives another result at N = %zu\n", c->name, n);
         exit(1);
     }
+}
+
+/* How many blocks a batch goes through: a search goes through all of them in each of its trials. */
+static double passed_through(const struct contender *c, int l)
+{
+    return (double)batches[l] * (is_search(c->result) ? expected[c->result].found[1] : 1);
 }
 
 /* One batch. An untimed part of it goes before, so that its tables are at hand. */
@@ -543,7 +606,7 @@ static void time_batch(struct contender *c, int l)
     c->run(lengths[l], batches[l] / 16);
     double start = seconds(CLOCK_MONOTONIC);
     c->run(lengths[l], batches[l]);
-    double spent = (seconds(CLOCK_MONOTONIC) - start) * 1e9 / (double)batches[l];
+    double spent = (seconds(CLOCK_MONOTONIC) - start) * 1e9 / passed_through(c, l);
     if (c->ns[l] <= 0 || spent < c->ns[l])
         c->ns[l] = spent;
 }
@@ -551,7 +614,7 @@ static void time_batch(struct contender *c, int l)
 /* Whether a batch takes more than a millisecond. */
 static int is_long(const struct contender *c, int l)
 {
-    return c->ns[l] * (double)batches[l] > 1e6;
+    return c->ns[l] * passed_through(c, l) > 1e6;
 }
 
 /* The least time of a batch over many rounds, every contender at every length in each round, long batches in every tenth. */
@@ -602,11 +665,12 @@ static void print_ratio(const char *a, const char *b)
     printf("\n");
 }
 
-static void print_times(void)
+/* Those of the coarsest step, or all others. */
+static void print_times(const char *title, int of_coarsest_step)
 {
-    print_head("ns per block");
+    print_head(title);
     for (int c = 0; c < CONTENDERS; c++) {
-        if (!offered_at_all(&contenders[c]))
+        if (!offered_at_all(&contenders[c]) || (contenders[c].result >= THERE_AND_BACK) != of_coarsest_step)
             continue;
         printf("| %s |", contenders[c].name);
         for (int l = 0; l < LENGTHS; l++) {
@@ -655,6 +719,20 @@ static void print_ratios_of_analyses(void)
     print_ratio("library, recording, double route", "library, double route");
 }
 
+/* levels and shares beside plain C */
+static void print_ratios_of_blocks(void)
+{
+    print_ratio("library, quantise", "plain C, quantise, -O3");
+    print_ratio("library, quantise", "plain C, quantise, -O3 -march=native");
+    print_ratio("library, dequantise", "plain C, dequantise, -O3");
+    print_ratio("library, dequantise", "plain C, dequantise, -O3 -march=native");
+    print_ratio("library, step on levels", "plain C, step on levels, -O3");
+    print_ratio("library, step on levels", "plain C, step on levels, -O3 -march=native");
+    print_ratio("library, step on levels", "library, step");
+    print_ratio("library, largest share", "plain C, largest share, -O3");
+    print_ratio("library, largest share", "plain C, largest share, -O3 -march=native");
+}
+
 static void print_ratios(void)
 {
     printf("\n");
@@ -676,15 +754,7 @@ static void print_ratios(void)
     print_ratio("library, direct", "FFmpeg av_tx MDCT (float)");
     print_ratio("library, step", "FFmpeg av_tx MDCT (float), step");
 #endif
-    print_ratio("library, quantise", "plain C, quantise, -O3");
-    print_ratio("library, quantise", "plain C, quantise, -O3 -march=native");
-    print_ratio("library, dequantise", "plain C, dequantise, -O3");
-    print_ratio("library, dequantise", "plain C, dequantise, -O3 -march=native");
-    print_ratio("library, step on levels", "plain C, step on levels, -O3");
-    print_ratio("library, step on levels", "plain C, step on levels, -O3 -march=native");
-    print_ratio("library, step on levels", "library, step");
-    print_ratio("library, largest share", "plain C, largest share, -O3");
-    print_ratio("library, largest share", "plain C, largest share, -O3 -march=native");
+    print_ratios_of_blocks();
 }
 
 /* The sizes of recordings that are timed, and the calls over them, in pairs, by block and by frequency. The longest has a power of two of blocks,
@@ -797,6 +867,22 @@ static void print_orders(void)
         }
 }
 
+/* A trial beside analysis and synthesis of the same recording and beside plain C's, and many beside one. */
+static void print_coarsest_step(void)
+{
+    printf("\n");
+    print_times("coarsest step, ns per block and trial", 1);
+    printf("\n");
+    print_head("ratio");
+    print_ratio("library, a trial that passes", "library, recording, there and back");
+    print_ratio("library, a trial that passes", "plain C, a trial that passes, -O3");
+    print_ratio("library, a trial that passes", "plain C, a trial that passes, -O3 -march=native");
+    print_ratio("library, 10 trials that fail", "library, 1 trial that fails");
+    print_ratio("library, 100 trials that fail", "library, 1 trial that fails");
+    print_ratio("library, 100 trials that fail", "plain C, 100 trials that fail, -O3");
+    print_ratio("library, 100 trials that fail", "plain C, 100 trials that fail, -O3 -march=native");
+}
+
 /* One batch of each for callgrind, a dump after each. Code for the machine at hand is left out: valgrind may not know its instructions. */
 static void count_all(void)
 {
@@ -809,7 +895,7 @@ static void count_all(void)
             verify(&contenders[c], l);
             if (!contenders[c].offered[l])
                 continue;
-            snprintf(text, sizeof text, "%s;%zu;%zu", contenders[c].name, lengths[l], batches[l]);
+            snprintf(text, sizeof text, "%s;%zu;%.0f", contenders[c].name, lengths[l], passed_through(&contenders[c], l));
             CALLGRIND_ZERO_STATS;
             contenders[c].run(lengths[l], batches[l]);
             CALLGRIND_DUMP_STATS_AT(text);
@@ -831,8 +917,9 @@ int main(int argc, char **argv)
     }
     plain_native_init();
     time_all(1500);
-    print_times();
+    print_times("ns per block", 0);
     print_ratios();
+    print_coarsest_step();
     time_recordings(60);
     print_orders();
     return refused != 0;

@@ -101,8 +101,20 @@ SYNTHESIS(synthesis_by_frequency, BY_FREQUENCY)
 REORDERED(reordered_by_block, BY_BLOCK)
 REORDERED(reordered_by_frequency, BY_FREQUENCY)
 
+static uint32_t there_and_back(size_t n, size_t blocks, const int16_t *padded, int32_t *coefficients, int16_t *sound)
+{
+    return recording_direct(n, blocks, padded, coefficients) | synthesis(n, blocks, coefficients, sound);
+}
+
+static uint32_t coarsest_step(size_t n, size_t blocks, const int16_t *padded, uint32_t allowed, size_t budget, uint32_t *found)
+{
+    size_t m = n / 2, hops = blocks - 1;
+    return dapplescree_coarsest_step(n, hops, padded + m, hops * m, allowed, budget, found, 3);
+}
+
 const struct library library = {
     direct, by_short_route, recording_direct, recording_short, step, synthesis, direct_short_joints, by_short_route_short_joints, step_short_joints,
     quantise, dequantise, step_levels, largest_share, recording_direct_by_frequency, recording_short_by_frequency, synthesis_by_frequency,
     reordered_by_block, reordered_by_frequency, by_double_route, by_double_route_short_joints, recording_double, recording_double_by_frequency,
+    there_and_back, coarsest_step,
 };

@@ -36,6 +36,10 @@ struct library {
     uint32_t (*by_double_route_short_joints)(size_t, size_t, const int16_t *, int32_t *);
     uint32_t (*recording_double)(size_t, size_t, const int16_t *, int32_t *);
     uint32_t (*recording_double_by_frequency)(size_t, size_t, const int16_t *, int32_t *);
+    /* n, blocks, a padded recording of blocks - 1 hops, its coefficients by direct analysis, and their sound */
+    uint32_t (*there_and_back)(size_t, size_t, const int16_t *, int32_t *, int16_t *);
+    /* n, blocks, a padded recording of blocks - 1 hops, the allowed distance, the budget, and three numbers: the coarsest step, trials, untried */
+    uint32_t (*coarsest_step)(size_t, size_t, const int16_t *, uint32_t, size_t, uint32_t *);
 };
 
 extern const struct library library;

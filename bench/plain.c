@@ -429,3 +429,54 @@ void PLAIN(largest_share)(size_t n, uint32_t shape, const int32_t *first, const 
 {
     BY_LENGTH(largest_share, shape, first, first_changed, second, second_changed, place, named)
 }
+
+/* Whether every sample of a hop lies within what is allowed of its own. */
+INLINE int within(size_t m, const int16_t *hop, const int16_t *x, uint32_t allowed)
+{
+    uint32_t most = 0;
+    for (size_t i = 0; i < m; i++) {
+        int32_t apart = hop[i] - x[i];
+        uint32_t distance = (uint32_t)(apart < 0 ? -apart : apart);
+        most = distance > most ? distance : most;
+    }
+    return most <= allowed;
+}
+
+/* Whether every sample of a recording returns within what is allowed where one step is that of all coefficients. Block b returns the padded
+ * recording's hop b; the first of them is the run-in. */
+INLINE int passes(const struct tables *t, size_t n, size_t hops, const int16_t *padded, uint32_t allowed, uint32_t step)
+{
+    size_t m = n / 2;
+    int64_t tail[MOST_M] = {0};
+    for (size_t b = 0; b <= hops; b++) {
+        int32_t x[MOST_M];
+        int16_t hop[MOST_M];
+        analyse_folded(t, n, 0, 0, padded + b * m, x);
+        for (size_t k = 0; k < m; k++)
+            x[k] = restored(level(x[k], step), (int32_t)step);
+        step_folded(t, n, 0, 0, tail, x, hop);
+        if (b > 0 && !within(m, hop, padded + b * m, allowed))
+            return 0;
+    }
+    return 1;
+}
+
+/* From 1024 downward, to the first step that passes, or to the sure step where all above it or as many as the budget have failed. */
+INLINE void coarsest_step(const struct tables *t, size_t n, size_t hops, const int16_t *padded, uint32_t allowed, size_t budget, uint32_t *found)
+{
+    uint32_t sure = allowed < 32 ? 32 * allowed + 15 : 1024, step = 1024, trials = 0;
+    int passed = 0;
+    while (!passed && step > sure && trials < budget) {
+        passed = passes(t, n, hops, padded, allowed, step);
+        trials++;
+        step -= !passed;
+    }
+    found[0] = passed ? step : sure;
+    found[1] = trials;
+    found[2] = passed ? 0 : step - sure;
+}
+
+void PLAIN(coarsest_step)(size_t n, size_t hops, const int16_t *padded, uint32_t allowed, size_t budget, uint32_t *found)
+{
+    BY_LENGTH(coarsest_step, hops, padded, allowed, budget, found)
+}

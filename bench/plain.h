@@ -1,5 +1,6 @@
 /* Plain C of the definitions, for comparison. plain.c is built twice, as plain_o3 and as plain_native, by VARIANT. Input is valid, but for
- * a step table, which is read from its bytes and tested at each call: what is returned is 0 or the 9, 10 or 11 that turns it away. */
+ * a step table, which is read from its bytes and tested at each call: what is returned is 0 or the 9, 10 or 11 that turns it away. A recording is padded
+ * with a hop of zeros before it and one behind it. */
 #ifndef PLAIN_H
 #define PLAIN_H
 
@@ -19,7 +20,8 @@
     uint32_t V##_step_levels(size_t n, uint32_t left, uint32_t right, const uint8_t *table, size_t table_length, int64_t *tail, \
                              const int32_t *levels, int16_t *hop);                                                              \
     void V##_largest_share(size_t n, uint32_t shape, const int32_t *first, const int32_t *first_changed, const int32_t *second, \
-                           const int32_t *second_changed, size_t place, uint32_t *named);
+                           const int32_t *second_changed, size_t place, uint32_t *named);                                       \
+    void V##_coarsest_step(size_t n, size_t hops, const int16_t *padded, uint32_t allowed, size_t budget, uint32_t *found);
 
 PLAIN_CALLS(plain_o3)
 PLAIN_CALLS(plain_native)

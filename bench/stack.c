@@ -16,7 +16,7 @@ static int32_t spectra[BLOCKS * MOST_M], coefficients[BLOCKS * MOST_M];
 static const int32_t silence[BLOCKS * MOST_M];
 static int64_t state[DAPPLESCREE_STATE];
 static uint8_t page[DAPPLESCREE_PAGE(MOST_N, HOPS)], table[TABLE_ROOM];
-static uint32_t distance[1], named[3];
+static uint32_t distance[1], named[3], found[3];
 
 static size_t n, m, table_length;
 static uint32_t left, right, order;
@@ -125,6 +125,12 @@ static uint32_t largest_share_recording(void)
     return dapplescree_largest_share_recording(n, HOPS, order, silence, BLOCKS * m, spectra, BLOCKS * m, HOPS - 1, m - 1, named, 3);
 }
 
+/* one trial, which passes and so goes through the whole recording */
+static uint32_t coarsest_step(void)
+{
+    return dapplescree_coarsest_step(n, HOPS, samples, HOPS * m, 31, 1, found, 3);
+}
+
 static const struct call {
     const char *name;
     uint32_t (*run)(void);
@@ -149,6 +155,7 @@ static const struct call {
     {"step on levels", step_levels, 0},
     {"largest share", largest_share, 0},
     IN_ORDERS("largest share, recording", largest_share_recording),
+    {"coarsest step", coarsest_step, 0},
 };
 
 enum { CALLS = sizeof calls / sizeof calls[0] };

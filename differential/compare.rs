@@ -1,4 +1,5 @@
 //! The library held against the reference, call by call.
+mod coarsest;
 mod orders;
 mod shares;
 mod steps;
@@ -265,7 +266,7 @@ impl Compare {
 
     fn some_hops(&mut self, hops: usize) -> usize {
         if self.random.one_in(8) {
-            self.random.pick(&[0, hops + 1, hops - 1, HOPS + 1, (1 << 32) + hops, 1 << 62, 1 << 63, usize::MAX])
+            wrong_hops(&mut self.random, hops)
         } else {
             hops
         }
@@ -500,13 +501,12 @@ impl Compare {
 
     /// Every choice of a step's causes: the first of them is returned.
     fn causes(&mut self, n: usize) {
-        for choice in 0..1 << CAUSES.len() {
-            let chosen: Vec<usize> = (0..CAUSES.len()).filter(|cause| choice >> cause & 1 == 1).collect();
+        for (chosen, due) in choices(&CAUSES) {
             for _ in 0..12 {
                 let made = state(&mut self.random, n);
                 let mut offer = Offer::good(&mut self.random, &made);
                 chosen.iter().rev().for_each(|&cause| offer.damage(&mut self.random, cause));
-                assert_eq!(self.offer(&mut offer), chosen.first().map_or(0, |&cause| CAUSES[cause]));
+                assert_eq!(self.offer(&mut offer), due);
             }
         }
     }
@@ -823,6 +823,7 @@ pub fn run(bank: Bank, seed: u64) -> u64 {
         compare.step_tables(n);
         compare.shares(n);
         compare.orders(n);
+        compare.coarsest(n);
     }
     compare.calls
 }

@@ -1,6 +1,6 @@
 //! Samples, coefficients and streams to call with.
 use crate::reference::{offered, tail_limit, Bank, Recording, Route, Shapes};
-use crate::reference::{BY_BLOCK, BY_FREQUENCY, COEFFICIENT_LIMIT, EXPECTED, LONG, SHAPE, SHORT, STATE, STORAGE, TAIL};
+use crate::reference::{BY_BLOCK, BY_FREQUENCY, COEFFICIENT_LIMIT, EXPECTED, HOPS, LONG, SHAPE, SHORT, STATE, STORAGE, TAIL};
 use std::collections::HashMap;
 
 pub const ROUTES: [Route; 3] = [Route::Direct, Route::Short, Route::Double];
@@ -36,6 +36,17 @@ pub fn in_orders(n: usize, hops: usize) -> [Recording; 2] {
 
 /// Numbers of hops that are none, whose products by small numbers wrap round to small ones.
 pub const WRAPPING_HOPS: [usize; 6] = [0, 1 << 62, 1 << 63, (1 << 63) + 1, (1 << 62) + 3, usize::MAX];
+
+/// A number of hops that differs from the stated one: beside it, one that is none, or one that is equal to it in its low bits.
+pub fn wrong_hops(random: &mut Random, hops: usize) -> usize {
+    random.pick(&[0, hops + 1, hops - 1, HOPS + 1, (1 << 32) + hops, 1 << 62, 1 << 63, usize::MAX])
+}
+
+/// Every choice of the causes of a call, and the number that is due: that of the first.
+pub fn choices(causes: &[u32]) -> Vec<(Vec<usize>, u32)> {
+    let chosen = |choice: usize| (0..causes.len()).filter(|cause| choice >> cause & 1 == 1).collect::<Vec<_>>();
+    (0..1 << causes.len()).map(chosen).map(|choice| (choice.clone(), choice.first().map_or(0, |&cause| causes[cause]))).collect()
+}
 
 /// Numbers by splitmix64.
 pub struct Random(u64);

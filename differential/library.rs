@@ -131,6 +131,16 @@ extern "C" {
         named: *mut u32,
         named_length: usize,
     ) -> u32;
+    fn dapplescree_coarsest_step(
+        n: usize,
+        hops: usize,
+        samples: *const i16,
+        samples_length: usize,
+        allowed: u32,
+        budget: usize,
+        found: *mut u32,
+        found_length: usize,
+    ) -> u32;
 }
 
 // Each pointer and length below come from one slice, and slices lent by & and &mut do not overlap.
@@ -202,4 +212,8 @@ pub fn largest_share_recording(recording: Recording, [original, changed]: [&[i32
     let Recording { n, hops, order } = recording;
     let ((a, b), (room, numbers)) = ((original.as_ptr(), changed.as_ptr()), (named.as_mut_ptr(), named.len()));
     unsafe { dapplescree_largest_share_recording(n, hops, order, a, original.len(), b, changed.len(), hop, place, room, numbers) }
+}
+
+pub fn coarsest_step(n: usize, hops: usize, x: &[i16], allowed: u32, budget: usize, found: &mut [u32]) -> u32 {
+    unsafe { dapplescree_coarsest_step(n, hops, x.as_ptr(), x.len(), allowed, budget, found.as_mut_ptr(), found.len()) }
 }

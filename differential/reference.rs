@@ -1,4 +1,4 @@
-//! Document 01, with P1, P2, P4 to P10 and P12 of document 02, written out anew: exact series, naive sums, rounding by size. It shares no table with any other file.
+//! Document 01, with P1, P2, P4 to P10, P12 and P13 of document 02, written out anew: exact series, naive sums, rounding by size. It shares no table with any other file.
 
 /// A natural number of any size, in base 2^64, lowest digit first.
 #[derive(Clone)]
@@ -111,6 +111,9 @@ pub const STATE: usize = TAIL + STORAGE;
 pub const COEFFICIENT_LIMIT: i32 = 536_870_912;
 pub const HOPS: usize = 4095;
 pub const LARGEST_STEP: i64 = 65_536;
+/// Of a search: the largest step that is tried, and the largest distance that may be allowed.
+pub const LARGEST_TRIED: u32 = 1024;
+pub const LARGEST_ALLOWED: u32 = 32;
 
 #[derive(Clone, Copy, Debug, PartialEq)]
 pub enum Route {
@@ -556,21 +559,34 @@ impl Bank {
         0
     }
 
-    /// Block b, b from 0 to hops, covers hops b - 1 and b. What lies outside the recording is 0, and every joint is long.
+    /// The coefficients of a recording's blocks. Block b, b from 0 to hops, covers hops b - 1 and b. What lies outside the recording is 0, and every joint
+    /// is long.
+    pub fn analysed(&self, route: Route, n: usize, x: &[i16]) -> Vec<Vec<i32>> {
+        let m = n / 2;
+        let block = |b: usize| {
+            let sample = |i: usize| (b * m + i).checked_sub(m).and_then(|at| x.get(at)).copied().unwrap_or(0);
+            self.coefficients(route, n, (LONG, LONG), &(0..n).map(sample).collect::<Vec<i16>>())
+        };
+        (0..=x.len() / m).map(block).collect()
+    }
+
+    /// The samples that come back from the coefficients of a recording's blocks.
+    fn returned(&self, n: usize, blocks: &[Vec<i32>]) -> Vec<i16> {
+        let mut tail = vec![0; n / 2];
+        let hops = blocks.iter().map(|block| self.advance(n, &mut tail, (LONG, LONG), block)).collect::<Vec<_>>();
+        // the first is the run-in
+        hops[1..].concat()
+    }
+
     pub fn analyse_recording(&self, route: Route, recording: Recording, x: &[i16], out: &mut [i32]) -> u32 {
         let Recording { n, hops, .. } = recording;
         if !offered(route, n) {
             return 1;
         }
-        let m = n / 2;
-        if !recording.fits(out.len()) || x.len() != hops * m {
+        if !recording.fits(out.len()) || x.len() != hops * (n / 2) {
             return 2;
         }
-        let block = |b: usize| {
-            let sample = |i: usize| (b * m + i).checked_sub(m).and_then(|at| x.get(at)).copied().unwrap_or(0);
-            self.coefficients(route, n, (LONG, LONG), &(0..n).map(sample).collect::<Vec<i16>>())
-        };
-        out.copy_from_slice(&recording.laid(&(0..=hops).map(block).collect::<Vec<_>>()));
+        out.copy_from_slice(&recording.laid(&self.analysed(route, n, x)));
         0
     }
 
@@ -579,17 +595,13 @@ impl Bank {
         if !tabled(n) {
             return 1;
         }
-        let m = n / 2;
-        if !recording.fits(x.len()) || out.len() != hops * m {
+        if !recording.fits(x.len()) || out.len() != hops * (n / 2) {
             return 2;
         }
         if beyond(x) {
             return 3;
         }
-        let mut tail = vec![0; m];
-        let hops = recording.blocks(x).iter().map(|block| self.advance(n, &mut tail, (LONG, LONG), block)).collect::<Vec<_>>();
-        // the first is the run-in
-        out.copy_from_slice(&hops[1..].concat());
+        out.copy_from_slice(&self.returned(n, &recording.blocks(x)));
         0
     }
 
@@ -605,6 +617,28 @@ impl Bank {
             return 3;
         }
         out.copy_from_slice(&to.laid(&to.turned().blocks(x)));
+        0
+    }
+
+    /// How far each sample of a recording lies from its own where every coefficient of its blocks is stored by this step.
+    pub fn apart(&self, n: usize, x: &[i16], blocks: &[Vec<i32>], step: u32) -> Vec<u32> {
+        let stored = |&c: &i32| back(level(c, i64::from(step)), i64::from(step));
+        let stored: Vec<Vec<i32>> = blocks.iter().map(|block| block.iter().map(stored).collect()).collect();
+        self.returned(n, &stored).into_iter().zip(x).map(|(returned, &own)| u32::from(returned.abs_diff(own))).collect()
+    }
+
+    pub fn coarsest_step(&self, n: usize, hops: usize, x: &[i16], allowed: u32, budget: usize, found: &mut [u32]) -> u32 {
+        if !tabled(n) {
+            return 1;
+        }
+        if !(1..=HOPS).contains(&hops) || x.len() != hops * (n / 2) || found.len() != 3 {
+            return 2;
+        }
+        if allowed > LARGEST_ALLOWED {
+            return 12;
+        }
+        let blocks = self.analysed(Route::Direct, n, x);
+        found.copy_from_slice(&search(allowed, budget, |step| self.apart(n, x, &blocks, step).into_iter().all(|distance| distance <= allowed)));
         0
     }
 
@@ -718,6 +752,26 @@ pub fn distance(route: Route, steps: &[i64]) -> u32 {
     let largest = steps.iter().max().expect("a table that is taken has a line");
     let q = largest / 2 + i64::from(units(route));
     ((q + 8) / 16) as u32
+}
+
+/// The step that needs no trial.
+fn sure(allowed: u32) -> u32 {
+    LARGEST_TRIED.min(32 * allowed + 15)
+}
+
+/// The step found, the trials made, and how many untried steps lie above that step.
+pub fn search(allowed: u32, budget: usize, passes: impl Fn(u32) -> bool) -> [u32; 3] {
+    let mut trials = 0;
+    for step in (sure(allowed) + 1..=LARGEST_TRIED).rev() {
+        if trials as usize == budget {
+            return [sure(allowed), trials, step - sure(allowed)];
+        }
+        trials += 1;
+        if passes(step) {
+            return [step, trials, 0];
+        }
+    }
+    [sure(allowed), trials, 0]
 }
 
 /// A line of 80 columns and a line feed for every six coefficients.

@@ -82,6 +82,9 @@ fn recording_holds(bank: &Bank, fields: &[&str]) -> bool {
             let (told, original, changed) = (recording([n, hops, order]), list(original), list(changed));
             agrees(length, code, out, |b| bank.largest_share_recording(told, [&original, &changed], number(hop), number(place), b))
         }
+        ["coarsest_step", n, hops, x, allowed, budget, length, code, out] => {
+            agrees(length, code, out, |b| bank.coarsest_step(number(n), number(hops), &list(x), number(allowed), number(budget), b))
+        }
         _ => false,
     }
 }

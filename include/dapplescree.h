@@ -58,23 +58,26 @@
  *   7  a block's number is not the one that the state expects
  *   8  a shape is above 1, or a block's left shape is not the one that the state expects
  *   9, 10, 11  a step table is turned away, as above
+ *  12  allowed is above 32
  *
  * Under each call stand its numbers in the order in which they are tested; the first cause that holds is returned. Every check is made before
  * anything is written: where the returned number is not 0, every buffer and the state hold what they held. Where it is 0, the buffer that the
  * call fills holds what is said below, the others hold what they held. No call keeps anything between calls, or reads or writes anything but
  * its arguments, so calls on different buffers may run at the same time.
  *
- * No call allocates, and none copies a recording: by frequency, the coefficients of a few blocks at a time are gathered or put in their places. What a
- * call takes of the stack is measured (bench/run stack) and not proved, and doesn't grow with a recording: below 6 KiB for n up to 72, below 7 KiB
- * by the double route and for n = 108, and below 18 KiB for n = 216; of a step on levels and of the synthesis of a recording 1 KiB more, of its analysis 4 KiB more.
+ * No call allocates, and none copies a recording: by frequency, the coefficients of a few blocks at a time are gathered or put in their places, and a
+ * step is tried on a recording block by block. What a call takes of the stack is measured (bench/run stack) and not proved, and doesn't grow with a
+ * recording: below 6 KiB for n up to 72, below 7 KiB by the double route and for n = 108, and below 18 KiB for n = 216; of a step on levels, of the
+ * synthesis of a recording and of the coarsest step 1 KiB more, of the analysis of a recording 4 KiB more.
  *
  * These are promises for every value of every argument, under what C cannot check: each pointer is not null, also where its length is 0, is
  * aligned, and points to as many entries as the length that follows it says; a buffer that a call writes overlaps no other of the same call,
  * while those that it only reads may be one and the same; nothing else writes to them, or reads what is being written, until the call returns. A
- * size is without a sign: a negative number handed in for one arrives as a huge size, and is refused as such. A block's number, a shape, a
- * route and an order have 32 bits: of a wider one its low 32 bits arrive. The numbers returned, and what each buffer then holds, are the contracts
- * of crates/c_face/src/lib.rt, which are proved; what is said of chains of states, of levels there and back, of the distance of returned sound, of
- * reading a page, of shares and of either order are theorems of crates/demands over the same definitions.
+ * size is without a sign: a negative number handed in for one arrives as a huge size, and is refused as such, but for a budget, of which every size is
+ * taken. A block's number, a shape, a route, an order and an allowed distance have 32 bits: of a wider one its low 32 bits arrive. The numbers
+ * returned, and what each buffer then holds, are the contracts of crates/c_face/src/lib.rt, which are proved; what is said of chains of states, of
+ * levels there and back, of the distance of returned sound, of reading a page, of shares, of either order and of the coarsest step are theorems
+ * of crates/demands over the same definitions.
  */
 #ifndef DAPPLESCREE_H
 #define DAPPLESCREE_H
@@ -314,6 +317,31 @@ uint32_t dapplescree_largest_share(size_t n, uint32_t shape, const int32_t *firs
  */
 uint32_t dapplescree_largest_share_recording(size_t n, size_t hops, uint32_t order, const int32_t *original, size_t original_length,
     const int32_t *changed, size_t changed_length, size_t hop, size_t place, uint32_t *named, size_t named_length);
+
+/* The coarsest step for a whole recording of `hops` hops, every joint of it long: the largest single step from 1 to 1024 by which its coefficients
+ * may be stored so that every sample returns within `allowed` of its own. `budget` says how many steps may be tried: none where it is 0. found is an
+ * array of three entries.
+ *   1  n is not tabled
+ *   2  hops is not 1 to 4095, samples_length is not hops * M, or found_length is not 3
+ *  12  allowed is above 32
+ *   0  found[0] is the step that the search ends with, found[1] how many steps it tried, and found[2] how many untried steps lie above found[0], up
+ *      to 1024
+ * A step passes where every sample that these calls return lies within `allowed` of the recording's at the same place:
+ * dapplescree_analyse_recording_direct, then for each block dapplescree_quantise and dapplescree_dequantise by a table of one line, which has that
+ * step for 0 to M - 1, then dapplescree_synthesise_recording. The sure step is the smaller of 1024 and 32 * allowed + 15: the distance told for it is
+ * `allowed`, so it passes for every recording, and it is never tried. Steps are tried from 1024 downward. The search ends with the first that passes,
+ * which counts as tried; with the sure step, once all above it have failed; or with the sure step, once `budget` steps were tried and none passed.
+ * With allowed 32 found is 1024, 0, 0 by every budget; by budget 0 it is 1007, 0, 17 with allowed 31, and 15, 0, 1009 with allowed 0.
+ *
+ * The step found passes. Every other one that was tried has a sample beyond `allowed`. Where found[2] is 0, the step found is the largest from 1 to
+ * 1024 that passes. found[0], found[2] and how many steps were tried and failed add up to 1024. With allowed below 32 the step 32 * allowed + 16
+ * passes for every recording too: so the sure step is returned only where the budget is used up, and a budget of 1009 leaves none untried.
+ *
+ * No buffer is lent for it, and nothing of a recording's size is kept. A trial ends at the first sample beyond `allowed`; one that passes takes about
+ * as long as analysis and synthesis of the recording together, which is measured (bench/run) and not proved.
+ */
+uint32_t dapplescree_coarsest_step(size_t n, size_t hops, const int16_t *samples, size_t samples_length, uint32_t allowed, size_t budget,
+    uint32_t *found, size_t found_length);
 
 #ifdef __cplusplus
 }

@@ -1,5 +1,5 @@
-"""Document 01, with P1, P2, P4 to P7, P10 and P12 of document 02, in exact whole numbers, as plainly as they are written: with steps.py, which has P8, and shares.py,
-which has P9, the source of every stored output. It shares no table, folding or rounding with the crates."""
+"""Document 01, with P1, P2, P4 to P7, P10 and P12 of document 02, in exact whole numbers, as plainly as they are written: with steps.py, which has P8, shares.py,
+which has P9, and coarsest.py, which has P13, the source of every stored output. It shares no table, folding or rounding with the crates."""
 from fractions import Fraction
 from functools import cache
 from math import factorial, floor
@@ -170,6 +170,11 @@ def blocks(N, x):
     return [padded[at : at + N] for at in range(0, len(x) + 1, N // 2)]
 
 
+def analysed(N, x, route="direct"):
+    """The coefficients of its blocks."""
+    return [ROUTES[route](N, LONG, LONG, block) for block in blocks(N, x)]
+
+
 def hops(N, spectra):
     """The hops that come back from the coefficients of its blocks, stepped from a fresh stream. The run-in, that of block 0, is dropped."""
     returned, tail = [], [0] * (N // 2)
@@ -279,7 +284,7 @@ def analyse_recording(route, N, H, x, length, order=BY_BLOCK):
     M = N // 2
     if not counted(H, order) or len(x) != H * M or length != (H + 1) * M:
         return 2, None
-    return 0, laid(order, [ROUTES[route](N, LONG, LONG, block) for block in blocks(N, x)])
+    return 0, laid(order, analysed(N, x, route))
 
 
 def recording_refusal(N, H, order, lists, rest_kept):
@@ -358,30 +363,41 @@ def number(field):
     return int(field)
 
 
-def listing(data):
-    """What round-trip prints for the bytes of its standard input."""
-
-    def refused(number, line):
-        return b"refused,%d,%d\n" % (number, line)
-
+def listing_verdict(data):
+    """The number and the line, counted from 1, that turns a listing away; the line is 0 for its size. 0 and 0 where it is taken."""
     if len(data) > 65536:
-        return refused(6, 0)
+        return 6, 0
     *lines, rest = data.split(b"\n")
     if not lines:
-        return refused(5, 1)
+        return 5, 1
     N = number(lines[0])
     if N is None:
-        return refused(5, 1)
+        return 5, 1
     if N not in LENGTHS:
-        return refused(1, 1)
-    M, samples = N // 2, []
+        return 1, 1
     for at, line in enumerate(lines[1:], 2):
         hop = [number(field) for field in line.split(b",")]
-        if len(hop) != M or any(s is None or not -32768 <= s <= 32767 for s in hop):
-            return refused(5, at)
-        samples += hop
-    if rest:
-        return refused(5, len(lines) + 1)
-    rows = [["hop"] + [f"s{n}" for n in range(M)]]
-    rows += [[h] + hop for h, hop in enumerate(hops(N, [direct(N, LONG, LONG, block) for block in blocks(N, samples)]))]
+        if len(hop) != N // 2 or any(s is None or not -32768 <= s <= 32767 for s in hop):
+            return 5, at
+    return (5, len(lines) + 1) if rest else (0, 0)
+
+
+def listed(data):
+    """N and the samples of a listing that is taken."""
+    first, *lines = data.split(b"\n")[:-1]
+    return number(first), [number(field) for line in lines for field in line.split(b",")]
+
+
+def refusal_line(number, line):
+    return b"refused,%d,%d\n" % (number, line)
+
+
+def listing(data):
+    """What round-trip prints for the bytes of its standard input."""
+    refused, at = listing_verdict(data)
+    if refused:
+        return refusal_line(refused, at)
+    N, samples = listed(data)
+    rows = [["hop"] + [f"s{n}" for n in range(N // 2)]]
+    rows += [[h] + hop for h, hop in enumerate(hops(N, analysed(N, samples)))]
     return "".join(",".join(str(f) for f in row) + "\n" for row in rows).encode()

@@ -5,9 +5,11 @@ import sys
 from itertools import product
 
 import bank
+import coarsest
 import shares
 import steps
-from bank import COEFFICIENT_LIMIT, HOPS, LENGTHS, LONG, ORDERS, ROUTES, SHAPES, SHORT_LENGTHS, STATE, STORAGE, page_length, tail_limit
+from bank import COEFFICIENT_LIMIT, HOPS, LENGTHS, ORDERS, ROUTES, SHAPES, SHORT_LENGTHS, STATE, STORAGE, page_length, tail_limit
+from recordings import quicken
 
 rounds = int(sys.argv[1]) if len(sys.argv) > 1 else 25
 rng = random.Random(int(sys.argv[2]) if len(sys.argv) > 2 else 1)
@@ -41,6 +43,10 @@ def spoil(x):
     if x:
         x[rng.randrange(len(x))] = rng.choice([COEFFICIENT_LIMIT + 1, -COEFFICIENT_LIMIT - 1, 2**31 - 1, -(2**31)])
     return x
+
+
+def near_N(N):
+    return rng.choice([N] * 9 + [0, 11, 48, 144, 2**64 - 1])
 
 
 def near(length):
@@ -228,6 +234,21 @@ def shared_recording(N, n):
     line("largest_share_recording", n, named, order, *lists, hop, place, length, *shares.name_share_recording(order, n, named, *lists, hop, place, length))
 
 
+def searched(N):
+    """Prints calls for the coarsest step of one recording, which is mostly as it should be. By the step found every sample lies within D."""
+    H = rng.randint(1, 216 // N)
+    count, n, named = H * (N // 2), N, H
+    if rng.randrange(3) == 0:
+        count, n, named = near(count), near_N(N), near_hops(H)
+    x = samples(count)
+    for _ in range(4):
+        D = rng.choice([*range(4)] * 4 + [rng.randrange(33), rng.randrange(33), 31, 32, 33, LAST])
+        budget, length = rng.choice([0, 1, 2, 7] * 4 + [60, 2000, 2**32, 2**64 - 1]), rng.choice([3] * 12 + [0, 2, 4])
+        number, found = coarsest.find_step(n, named, x, D, budget, length)
+        assert number or coarsest.passes(n, tuple(x), D, found[0])
+        line("coarsest_step", n, named, x, D, budget, length, number, found)
+
+
 for t in range(-1200, 3000):
     line("C", t, bank.C(t))
 for N in LENGTHS:
@@ -253,7 +274,7 @@ for n in [*range(219), 432, 2**32 + 12, 2**63 + 12, 2**64 - 1]:
 for _ in range(rounds):
     for N in LENGTHS:
         M = N // 2
-        n = rng.choice([N] * 9 + [0, 11, 48, 144, 2**64 - 1])
+        n = near_N(N)
         for route in ROUTES:
             for shapes in product(SHAPES, SHAPES):
                 shapes, x, length = [near_shape(shape) for shape in shapes], samples(near(N)), near(M)
@@ -269,3 +290,9 @@ for _ in range(rounds):
             stepped_levels(stepped_levels(state(N), M), M)
             shared(N, n)
             shared_recording(N, n)
+
+# a search is up to a thousand trials
+quicken()
+for _ in range(rounds // 2):
+    for N in LENGTHS:
+        searched(N)

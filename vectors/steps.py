@@ -1,6 +1,6 @@
 """P8 of document 02, step tables that customers edit, with P12's distance, as plainly as they are written, over bank.py.
 M is how many coefficients a block has, data the bytes of a table. It shares no code with the crates."""
-from bank import COEFFICIENT_LIMIT, LENGTHS, OFFERED, STATE, UNITS, beyond, number, rnd, stream_step
+from bank import COEFFICIENT_LIMIT, LENGTHS, OFFERED, STATE, UNITS, beyond, number, refusal_line, rnd, stream_step
 
 LARGEST_STEP = 65536
 # as they are numbered for C
@@ -69,10 +69,10 @@ def report(typed, data):
     """What step-table prints for a length as it is typed and the bytes of a table."""
     N = number(typed)
     if N not in LENGTHS:
-        return b"refused,1,0\n"
+        return refusal_line(1, 0)
     refused, at = verdict(N // 2, data)
     if refused:
-        return b"refused,%d,%d\n" % (refused, at)
+        return refusal_line(refused, at)
     rows = [("taken", max(steps(N // 2, data)))] + [(route, told(route, N, data)[1]) for route in ROUTE_NAMES if N in OFFERED[route]]
     return "".join("%s,%d\n" % row for row in rows).encode()
 

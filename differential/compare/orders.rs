@@ -11,19 +11,12 @@ fn long(recording: Recording) -> usize {
     (recording.hops + 1) * (recording.n / 2)
 }
 
-/// Every choice of the causes, and the number that is due.
-fn choices() -> Vec<(Vec<usize>, u32)> {
-    let chosen = |choice: usize| (0..ORDER_CAUSES.len()).filter(|cause| choice >> cause & 1 == 1).collect::<Vec<_>>();
-    (0..1 << ORDER_CAUSES.len()).map(chosen).map(|causes| (causes.clone(), causes.first().map_or(0, |&cause| ORDER_CAUSES[cause]))).collect()
-}
-
 /// Damages the hops or the order that a call is told.
 fn mistell(random: &mut Random, told: &mut Recording) {
-    let hops = told.hops;
     if random.one_in(2) {
         told.order = random.pick(&NO_ORDERS);
     } else {
-        told.hops = random.pick(&[0, hops + 1, hops - 1, HOPS + 1, (1 << 32) + hops, 1 << 62, 1 << 63, usize::MAX]);
+        told.hops = wrong_hops(random, told.hops);
     }
 }
 
@@ -128,7 +121,8 @@ impl Compare {
             let told = self.some_told(n, hops);
             self.reorder(told, &x, length);
         }
-        for (recording, (causes, due)) in choices().into_iter().flat_map(|choice| in_orders(n, hops).map(|recording| (recording, choice.clone()))) {
+        let either = |choice: (Vec<usize>, u32)| in_orders(n, hops).map(|recording| (recording, choice.clone()));
+        for (recording, (causes, due)) in choices(&ORDER_CAUSES).into_iter().flat_map(either) {
             for way in 0..9 {
                 let (mut told, mut length) = (recording, long(recording));
                 let mut x = coefficients(&mut self.random, length);
@@ -272,7 +266,7 @@ impl Compare {
                 self.explained(&sample);
             }
         }
-        for (causes, due) in choices().into_iter().flat_map(|choice| vec![choice; 25]) {
+        for (causes, due) in choices(&ORDER_CAUSES).into_iter().flat_map(|choice| vec![choice; 25]) {
             let mut sample = Sample::good(&mut self.random, recording);
             causes.iter().rev().for_each(|&cause| sample.damage(&mut self.random, cause));
             assert_eq!(self.largest_share_recording(&sample).0, due);

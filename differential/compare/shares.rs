@@ -229,12 +229,10 @@ impl Compare {
 
     /// Every choice of the causes: the first of them is returned.
     fn share_causes(&mut self, n: usize) {
-        for choice in (0..1 << SHARE_CAUSES.len()).flat_map(|choice| [choice; 60]) {
-            let chosen: Vec<usize> = (0..SHARE_CAUSES.len()).filter(|cause| choice >> cause & 1 == 1).collect();
+        for (chosen, due) in choices(&SHARE_CAUSES).into_iter().flat_map(|choice| vec![choice; 60]) {
             let (shape, place) = (self.random.pick(&SHAPES), self.random.below(n / 2));
             let mut question = Question::still(&mut self.random, n, shape, place);
             chosen.iter().rev().for_each(|&cause| question.damage(&mut self.random, cause));
-            let due = chosen.first().map_or(0, |&cause| SHARE_CAUSES[cause]);
             assert_eq!(self.largest_share(&question).0, due);
         }
         // every length of a list and every N near a tabled one, with all else as it should be

@@ -1,5 +1,5 @@
 -- Laws of a block by a route: a route is offered at tabled lengths only, and gives M coefficients.
-use mathlib.Core.Path.{_≡_, refl}
+use mathlib.Core.Path.{_≡_}
 use mathlib.Core.List.{List}
 use Prim.Native.Nat.{ℕ, _/_}
 use lib.Dec.{T}
@@ -35,12 +35,3 @@ spectrum-length Double N u = length-table (doubleX N u) (N / 2)
 pub coefficients-length : (route : Route) (N l r : ℕ) (x : List ℤ) → length (coefficients route N l r x) ≡ N / 2
 unfolding coefficients
 coefficients-length route N l r x = spectrum-length route N (y N (rising l N) (falling r N) x)
-
--- ---- the double route, by its lengths
--- what is not its first length is its last
-pub last-double : (N : ℕ) → T (D.offered N) → ¬ (N ≡ 36) → N ≡ 72
-last-double N o = P.either N o (λ n. ¬ (n ≡ 36) → n ≡ 72) (λ h. absurd (h refl)) (λ h. refl)
-
--- the same at a length under another name
-pub double-at : (n N l r : ℕ) (x out : List ℤ) → n ≡ N → out ≡ double N (y N (rising l N) (falling r N) x) → out ≡ double n (y n (rising l n) (falling r n) x)
-double-at n N l r x out e h = rw e h

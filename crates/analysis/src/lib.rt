@@ -1,9 +1,5 @@
 // The routes, and one block of a length at which its route is offered, valid by its requires.
-// No function here is a public call: `recording` and the public calls over blocks call `analyse_block`, after every check, and `listing` the direct route.
-pub mod direct;
-mod double;
-mod short;
-
+// No function here is a public call: `recording` and the public calls over blocks call `analyse_block`, after every check.
 ghost use mathlib.Core.Path.{_≡_};
 ghost use Prim.Native.Nat.{_/_};
 ghost use lib.Dec.{T};
@@ -23,8 +19,8 @@ pub fn analyse_block(route: Route, n: usize, left: u32, right: u32, x: &[i16], o
     ensures { λ _. ⌜ now (out .exit) ≡ coefficients route n left right (now (x .entry)) ⌝ }
 {
     match route {
-        Route::Direct => direct::analyse(n, left, right, x, out),
-        Route::Short => short::analyse(n, left, right, x, out),
-        Route::Double => double::analyse(n, left, right, x, out),
+        Route::Direct => direct_bodies::analyse(n, left, right, x, out),
+        Route::Short => split_bodies::short::analyse(n, left, right, x, out),
+        Route::Double => split_bodies::double::analyse(n, left, right, x, out),
     }
 }

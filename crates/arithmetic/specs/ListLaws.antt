@@ -86,6 +86,14 @@ filled-three f k out out₀ u v w so less eu ev ew =
     (filled-more f (3 * k + 2) (set (set out (3 * k) u) (3 * k + 1) v) out₀ w (rw next at second)
     (omega (arith, length-set out (3 * k) u, length-set (set out (3 * k) u) (3 * k + 1) v)) ew)
 
+-- a list of three, written entry by entry
+pub three : {A : Type 0} (xs : List A) (a b c : A) → length xs ≡ 3 → set (set (set xs 0 a) 1 b) 2 c ≡ a ∷ b ∷ c ∷ []
+three [] a b c e = absurd (omega (arith, e))
+three (x ∷ []) a b c e = absurd (omega (arith, e))
+three (x ∷ y ∷ []) a b c e = absurd (omega (arith, e))
+three (x ∷ y ∷ z ∷ []) a b c e = cc
+three (x ∷ y ∷ z ∷ w ∷ xs) a b c e = absurd (omega (arith, e))
+
 -- ---- a part of a list: m entries from place p
 pub part-length : {A : Type 0} (xs : List A) (p n m : ℕ) → n ≡ m → p + m ≤ length xs → length (take n (drop p xs)) ≡ m
 part-length xs p n m is fits = length-take-le n (drop p xs) (omega (arith, length-drop p xs)) ∙ is

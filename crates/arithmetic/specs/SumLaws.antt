@@ -2,7 +2,7 @@
 use mathlib.Core.Path.{_≡_, refl, sym, ap, ap₂, _∙_}
 use Prim.Native.Nat.{ℕ, zero, suc, _+_, _-_, _*_, _≤_, _<_}
 use mathlib.Core.Logic.{_≢_}
-use native.Mathlib.Nat.{le-refl, add-zero, add-suc}
+use native.Mathlib.Nat.{le-refl, le-trans, add-zero, add-suc}
 use native.Mathlib.Omega.{arith}
 use native.Mathlib.Decide.{ℕ-discrete}
 use native.Mathlib.Numerals.{add-one}
@@ -110,6 +110,16 @@ pub sumℕ-le : (n B : ℕ) (f : ℕ → ℕ) → ((i : ℕ) → i < n → f i �
 unfolding sumℕ
 sumℕ-le zero B f h = omega arith
 sumℕ-le (suc n) B f h = omega (arith, sumℕ-le n B f (λ i p. h i (omega arith)), h n (le-refl (suc n)))
+
+-- no term is larger than the sum
+pub sumℕ-term : (n : ℕ) (f : ℕ → ℕ) (k : ℕ) → k < n → f k ≤ sumℕ n f
+unfolding sumℕ
+sumℕ-term zero f k p = absurd (omega arith)
+sumℕ-term (suc n) f k p = go (ℕ-discrete k n) (sumℕ-term n f k)
+  where
+    go : Dec (k ≡ n) → (k < n → f k ≤ sumℕ n f) → f k ≤ sumℕ n f + f n
+    go (yes e) ih = rw e (omega arith)
+    go (no m) ih = le-trans (ih (omega (arith, m))) (omega arith)
 
 -- ---- a sum by two parts, by three and by four
 -- the second half forwards

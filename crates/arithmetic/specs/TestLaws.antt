@@ -87,6 +87,12 @@ unfolding all
 all-make zero p h = tt
 all-make (suc n) p h = both-make (all n p) (p n) (all-make n p (λ i q. h i (omega arith))) (h n (le-refl (suc n)))
 
+-- tests that are the same of each number below n
+pub all-same : (n : ℕ) (p q : ℕ → Bool) → ((i : ℕ) → i < n → p i ≡ q i) → all n p ≡ all n q
+unfolding all
+all-same zero p q e = refl
+all-same (suc n) p q e = rw (all-same n p q (λ i h. e i (omega arith)), e n (le-refl (suc n)))
+
 -- the same as equations, for a loop that stops at the first failure
 pub all-none : (p : ℕ → Bool) → all 0 p ≡ true
 unfolding all

@@ -9,6 +9,7 @@ ghost use Rattle.page.specs.Page.{pageCode, pageOut};
 ghost use Rattle.level_calls.specs.LevelCalls.{quantiseCode, quantiseOut, dequantiseCode, dequantiseOut, tellNumber, tellNumberOut, stateCode, stateAfter, stateOut};
 ghost use Rattle.share_calls.specs.ShareCalls.{nameCode, nameOut};
 ghost use Rattle.share_calls.specs.RecordingShares.{recordingNameCode, recordingNameOut};
+ghost use Rattle.coarsest_calls.specs.CoarsestCalls.{findCode, findOut};
 ghost use Rattle.state_calls.specs.States.{freshCode, freshState, stepCode, stepState, stepOut};
 use analysis::Route;
 
@@ -290,4 +291,20 @@ pub extern "C" fn dapplescree_largest_share_recording(
     let by = orders::numbered(order);
     let count = orders::hops_in(order, hops);
     filter_bank::name_share_recording(by, n, count, original, changed, hop, place, named)
+}
+
+// The coarsest step for a recording: `filter_bank::find_step`.
+#[no_mangle]
+pub extern "C" fn dapplescree_coarsest_step(
+    n: usize,
+    hops: usize,
+    samples: &[i16],
+    allowed: u32,
+    budget: usize,
+    found: &mut [u32],
+) -> u32
+    ensures { λ r. ⌜ r ≡ findCode n hops (now (samples .entry)) allowed (now (found .entry)) ⌝ }
+    ensures { λ _. ⌜ now (found .exit) ≡ findOut n hops (now (samples .entry)) allowed budget (now (found .entry)) ⌝ }
+{
+    filter_bank::find_step(n, hops, samples, allowed, budget, found)
 }

@@ -28,18 +28,21 @@ use Rattle.steps.specs.Table.{rowOf, refused, verdict, tableCode, coarsest}
 use Rattle.steps.specs.declared.row.Line.{Line}
 use Rattle.level_calls.specs.LevelCalls as L
 use Rattle.level_calls.specs.LevelCalls.{quantiseCode, quantiseOut, dequantiseCode, dequantiseOut, told, tellNumber, tellNumberOut, stepLevels}
-use Rattle.table_report.specs.Report as R
 use Rattle.table_report.specs.Report.{takenLines, reportOf}
 use Rattle.shares.specs.Shares.{largestShare}
 use Rattle.share_calls.specs.ShareCalls.{answeredWith, refusedWith, shareAnswer, nameCode, nameOut}
 use Rattle.share_calls.specs.RecordingShares.{shareAt, numberedFrom, recordingShare, recordingNameCode, recordingNameOut}
-use Rattle.text.specs.Number.{isNumber, value}
+use Rattle.coarsest.specs.Coarsest.{coarsest as coarsestStep}
+use Rattle.coarsest_calls.specs.CoarsestCalls as Calls
+use Rattle.coarsest_calls.specs.CoarsestCalls.{coarsestAnswer, findCode, findOut}
+use Rattle.coarsest_report.specs.Report as Reports
+use Rattle.text.specs.Number.{mostDigits, isNumber, value}
 use Rattle.text.specs.Lines.{lines, remainder}
 use Rattle.page.specs.Page.{pageCode, pageOut}
 use Rattle.listing.specs.Hops.{digits, isHop}
-use Rattle.listing.specs.Verdicts.{limit}
-use Rattle.listing.specs.Print.{refusal}
-use Rattle.listing.specs.Listing.{returnedHops, table, listing}
+use Rattle.listing.specs.Verdicts.{limit, hopsOf}
+use Rattle.text.specs.Refusal.{refusal}
+use Rattle.listing.specs.Listing.{recording, returnedHops, table, listing}
 use Rattle.listing.specs.SizeLaws.{room}
 use Rattle.demands.specs.Steps.{taken}
 
@@ -294,8 +297,8 @@ pub record Typed (number : List ℕ) (N : ℕ) : Type 0 where
   pub length-is : Tabled N
 
 pub record ReportAnswers (number text : List ℕ) : Type 0 where
-  pub one : ((N : ℕ) → ¬ Typed number N) → reportOf number text ≡ R.refusal 1 0
-  pub table-own : (N : ℕ) → Typed number N → ¬ Ruled N text → reportOf number text ≡ R.refusal (verdict (N / 2) text .code) (verdict (N / 2) text .line)
+  pub one : ((N : ℕ) → ¬ Typed number N) → reportOf number text ≡ refusal 1 0
+  pub table-own : (N : ℕ) → Typed number N → ¬ Ruled N text → reportOf number text ≡ refusal (verdict (N / 2) text .code) (verdict (N / 2) text .line)
   pub taken : (N : ℕ) → Typed number N → Ruled N text → reportOf number text ≡ takenLines N text
 
 -- ---- shares (P9): the lengths and the place that `largest_share` asks for
@@ -385,3 +388,46 @@ pub record ListingAnswers (text : List ℕ) : Type 0 where
   pub taken : (N : ℕ) (hops : List (List ℕ)) → Begun text N hops → Hops N (length hops) hops → length (remainder text) ≡ 0 →
       listing text ≡ table N (length hops) (returnedHops N text)
   pub fits : length (listing text) ≤ room
+
+-- ---- the coarsest step (P13)
+-- `coarsest_step`: beside a refusal all else is 0
+pub record CoarsestAnswers (N H : ℕ) (x : List ℤ) (D budget : ℕ) : Type 0 where
+  pub one : ¬ Tabled N → coarsestAnswer N H x D budget ≡ Calls.refusedWith 1
+  pub two-hops : Tabled N → ¬ Counted H → coarsestAnswer N H x D budget ≡ Calls.refusedWith 2
+  pub two : Tabled N → length x ≢ H * (N / 2) → coarsestAnswer N H x D budget ≡ Calls.refusedWith 2
+  pub twelve : Tabled N → Counted H → length x ≡ H * (N / 2) → 32 < D → coarsestAnswer N H x D budget ≡ Calls.refusedWith 12
+  pub taken : Tabled N → Counted H → length x ≡ H * (N / 2) → D ≤ 32 → coarsestAnswer N H x D budget ≡ Calls.answeredWith (coarsestStep N H x D budget)
+
+-- `find_step`, the same into room for three numbers, another length being 2, before 12, and the call for C
+pub record FindAnswers (N H : ℕ) (x : List ℤ) (D budget : ℕ) (room : List ℕ) : Type 0 where
+  pub one : ¬ Tabled N → findCode N H x D room ≡ 1
+  pub two-hops : Tabled N → ¬ Counted H → findCode N H x D room ≡ 2
+  pub two : Tabled N → length x ≢ H * (N / 2) → findCode N H x D room ≡ 2
+  pub two-room : Tabled N → length room ≢ 3 → findCode N H x D room ≡ 2
+  pub twelve : Tabled N → Counted H → length x ≡ H * (N / 2) → length room ≡ 3 → 32 < D → findCode N H x D room ≡ 12
+  pub taken : Tabled N → Counted H → length x ≡ H * (N / 2) → length room ≡ 3 → D ≤ 32 → findCode N H x D room ≡ 0
+  pub found : findCode N H x D room ≡ 0 → let a = coarsestAnswer N H x D budget in (a .code ≡ 0) × (findOut N H x D budget room ≡ a .step ∷ a .trials ∷ a .untried ∷ [])
+  pub kept : findCode N H x D room ≢ 0 → findOut N H x D budget room ≡ room
+
+-- `coarsest_report::report`, what the command coarsest-step prints: for a distance and a budget as they are typed, each a number of at most so many digits that names n, and
+-- the bytes of a listing
+pub record Whole (most : ℕ) (typed : List ℕ) (n : ℕ) : Type 0 where
+  pub form : T (isNumber most typed)
+  pub named : value typed ≡ pos n
+
+-- a listing that is taken, of these hops
+pub record Listed (text : List ℕ) (N : ℕ) (hops : List (List ℕ)) : Type 0 where
+  pub begun : Begun text N hops
+  pub each : Hops N (length hops) hops
+  pub ended : length (remainder text) ≡ 0
+
+pub record FoundReportAnswers (distance budget text : List ℕ) : Type 0 where
+  -- a listing that round-trip refuses is refused alike
+  pub alike : ((N : ℕ) (hops : List (List ℕ)) → ¬ Listed text N hops) → Reports.reportOf distance budget text ≡ listing text
+  pub two : (N : ℕ) (hops : List (List ℕ)) → Listed text N hops → ¬ Counted (length hops) → Reports.reportOf distance budget text ≡ refusal 2 0
+  pub twelve : (N : ℕ) (hops : List (List ℕ)) → Listed text N hops → Counted (length hops) → ((D : ℕ) → D ≤ 32 → ¬ Whole digits distance D) → Reports.reportOf distance budget text ≡ refusal 12 0
+  pub taken : (N : ℕ) (hops : List (List ℕ)) → Listed text N hops → Counted (length hops) → (D : ℕ) → D ≤ 32 → Whole digits distance D → (b : ℕ) → Whole mostDigits budget b →
+      let r = coarsestStep N (length hops) (recording (hopsOf text)) D b in Reports.reportOf distance budget text ≡ Reports.foundLines (r .step) (r .trials) (r .untried)
+  -- bytes that are no budget stand for none: the command asks `is_budget` before it prints anything
+  pub no-budget : (N : ℕ) (hops : List (List ℕ)) → Listed text N hops → Counted (length hops) → (D : ℕ) → D ≤ 32 → Whole digits distance D → ((b : ℕ) → ¬ Whole mostDigits budget b) →
+      let r = coarsestStep N (length hops) (recording (hopsOf text)) D 0 in Reports.reportOf distance budget text ≡ Reports.foundLines (r .step) (r .trials) (r .untried)

@@ -1,7 +1,9 @@
--- The three demands, proved: `demand-1`, `demand-2` and `demand-3` are the records of Demands, `either-order` is that of orders, `levels-kept` is that of levels, `sparse-kept` that of sparse changes, and `beyond` what is proved beyond the third.
+-- The three demands, proved: `demand-1`, `demand-2` and `demand-3` are the records of Demands, `either-order` is that of orders, `levels-kept` is that of levels, `sparse-kept` that of sparse changes, `coarsest-found` that of the coarsest step, and `beyond` what is proved beyond the third.
+use Prim.Native.Nat.{_+_, _*_}
 use Rattle.analysis.specs.declared.Route.the-variants.{Direct}
+use Rattle.step_search.specs.Search.{sure}
 use Rattle.recording_calls.specs.Recordings.{playedOut}
-use Rattle.demands.specs.Demands.{Demand-1, Demand-2, Either-order, OneQ, Demand-3, Levels-kept, Sparse-kept, Beyond}
+use Rattle.demands.specs.Demands.{Demand-1, Demand-2, Either-order, OneQ, Demand-3, Levels-kept, Sparse-kept, Coarsest-found, Beyond}
 use Rattle.demands.specs.RecordingLaws.{proved-one}
 use Rattle.demands.specs.AnswerLaws as Answers
 use Rattle.demands.specs.DefinitionLaws as Definitions
@@ -12,6 +14,8 @@ use Rattle.demands.specs.MovedLaws as Moved
 use Rattle.demands.specs.StoredLaws as Stored
 use Rattle.demands.specs.StoredListLaws as StoredLists
 use Rattle.demands.specs.SparseLaws as Sparse
+use Rattle.demands.specs.CoarseLaws as Coarse
+use Rattle.demands.specs.CoarseTableLaws as CoarseTables
 use Rattle.demands.specs.BackLaws.{back-one, back-by-one-call, back-block-by-block}
 
 pub demand-1 : Demand-1
@@ -65,6 +69,21 @@ sparse-kept = record {
   once = λ N H T order x c out s g e. (Sparse.sparse-once N H T order x c g out s e, λ Q h. back-by-one-call N H Q Direct order x c out s h e .0);
   blocks = λ N H T routes order x c out r g e. (Sparse.sparse-blocks N H T routes order x c g out r e, λ Q h. back-block-by-block N H Q routes order x c out r h e .0);
   one = Sparse.sparse-one;
+}
+
+pub coarsest-found : Coarsest-found
+coarsest-found = record {
+  found = Coarse.found-on;
+  sure-keeps = λ N H x D s t c l. Coarse.passes-keeps N H x s D (sure D) (Coarse.sure-passes N H x s t c l D);
+  told = λ N H x D step s t c l p q. Coarse.passes-keeps N H x s D step (Coarse.told-passes N H x s t c l D step p q);
+  next = λ N H x D s t c l. Coarse.passes-keeps N H x s D (32 * D + 16) (Coarse.next-passes N H x s t c l D);
+  trial = λ N H x D step s e. Coarse.passes-keeps N H x s D step e;
+  trial-fails = λ N H x D step s e. Coarse.fails-beyond N H x s D step e;
+  stored = CoarseTables.stored-once;
+  told-is = CoarseTables.told-is;
+  at-32 = Coarse.answer-32;
+  at-31 = Coarse.answer-31;
+  at-0 = Coarse.answer-0;
 }
 
 pub beyond : Beyond

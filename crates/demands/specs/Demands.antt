@@ -1,5 +1,5 @@
 -- THE THREE DEMANDS, for every signal, over the definitions that the contracts of the public calls cite (specs/ of block_calls, stream_calls,
--- state_calls, recording_calls, level_calls, share_calls, page, listing and, for an order's number, orders). Each record below is one demand or a part of it; the theorems `demand-1`, `demand-2`, `either-order`, `demand-3`, `levels-kept`, `sparse-kept` and `beyond` of DemandLaws prove them.
+-- state_calls, recording_calls, level_calls, share_calls, coarsest_calls, page, listing and, for an order's number, orders). Each record below is one demand or a part of it; the theorems `demand-1`, `demand-2`, `either-order`, `demand-3`, `levels-kept`, `sparse-kept`, `coarsest-found` and `beyond` of DemandLaws prove them.
 --
 -- What the contracts add: a call ends on any numbers and any buffer lengths and never overflows, and what it returns and leaves is what these
 -- definitions say. A check of the public calls' crates proves that of the code.
@@ -32,6 +32,9 @@ use Rattle.levels.specs.Levels.{clipped}
 use Rattle.level_calls.specs.LevelCalls as L
 use Rattle.level_calls.specs.LevelCalls.{quantiseCode, quantiseOut, dequantiseCode, dequantiseOut}
 use Rattle.shares.specs.Shares.{earlier, later, shareIn, Before}
+use Rattle.coarsest.specs.Coarsest.{stepped, passes}
+use Rattle.coarsest_calls.specs.CoarsestCalls.{coarsestAnswer}
+use Rattle.step_search.specs.Search.{sure}
 use Rattle.share_calls.specs.declared.Share.{Share}
 use Rattle.share_calls.specs.ShareCalls.{shareAnswer}
 use Rattle.share_calls.specs.RecordingShares.{recordingShare, recordingNameCode, recordingNameOut}
@@ -46,9 +49,10 @@ use Rattle.demands.specs.Stored.{Stored, StoredBlocks, StoredOnce, Store
 use Rattle.demands.specs.StoredLists.{LoadOffer, loadTurns, loadFinal, loadCalls, loadHeld, asTurns, StoredLoads}
 use Rattle.demands.specs.Recordings.{ByOneCall, BlockByBlock, Back, BackOneQ, SharperBack, offering, outputs}
 use Rattle.demands.specs.Sparse.{SparseNumbered, SparseOnce, SparseBlocks, sparseDistance, SparselyReturned, SparselyBack}
-use Rattle.demands.specs.Answers.{Tabled, InRange, AnalyseAnswers, FreshAnswers, StepAnswers, StateFreshAnswers, StateStepAnswers, RecordedAnswers, PlayedAnswers, ReorderAnswers, NumberAnswers, InnerAnswers, PageAnswers, Ruled, TableAnswers, ShareAnswers, NameAnswers, RecordingShareAnswers, RecordingNameAnswers, QuantiseAnswers, DequantiseAnswers, ToldAnswers, TellAnswers, StepLevelsAnswers, StateStepLevelsAnswers, ReportAnswers, ListingAnswers}
+use Rattle.demands.specs.Coarse.{Keeps, Fails, Found-on}
+use Rattle.demands.specs.Answers.{Tabled, Counted, InRange, AnalyseAnswers, FreshAnswers, StepAnswers, StateFreshAnswers, StateStepAnswers, RecordedAnswers, PlayedAnswers, ReorderAnswers, NumberAnswers, InnerAnswers, PageAnswers, Ruled, TableAnswers, ShareAnswers, NameAnswers, RecordingShareAnswers, RecordingNameAnswers, QuantiseAnswers, DequantiseAnswers, ToldAnswers, TellAnswers, StepLevelsAnswers, StateStepLevelsAnswers, ReportAnswers, ListingAnswers, CoarsestAnswers, FindAnswers, FoundReportAnswers}
 
--- ================ DEMAND 1: the whole work, or the numbered refusal of document 01, for recordings, pages, numbered blocks, joints, step tables, shares and orders as document 02, P1, P2, P6, P7, P8, P9 and P10, has it, at P4's six lengths, the short route at four, the double route at two (P12), with stream and buffers as they were
+-- ================ DEMAND 1: the whole work, or the numbered refusal of document 01, for recordings, pages, numbered blocks, joints, step tables, shares, orders and the coarsest step as document 02, P1, P2, P6, P7, P8, P9, P10 and P13, has it, at P4's six lengths, the short route at four, the double route at two (P12), with stream and buffers as they were
 -- each call's record is in Answers: its number by the causes, and what a refusal leaves
 pub record Demand-1 : Type 0 where
   pub analyse : (route : Route) (N left right : ℕ) (x out : List ℤ) → AnalyseAnswers route N left right x out
@@ -76,6 +80,9 @@ pub record Demand-1 : Type 0 where
   pub shared-in : (N shape : ℕ) (first first′ second second′ : List ℤ) (place : ℕ) (room : List ℕ) → NameAnswers N shape first first′ second second′ place room
   pub shared-recording : (order : Order) (N H : ℕ) (X X′ : List ℤ) (hop place : ℕ) → RecordingShareAnswers order N H X X′ hop place
   pub shared-recording-in : (order : Order) (N H : ℕ) (X X′ : List ℤ) (hop place : ℕ) (room : List ℕ) → RecordingNameAnswers order N H X X′ hop place room
+  pub searched : (N H : ℕ) (x : List ℤ) (D budget : ℕ) → CoarsestAnswers N H x D budget
+  pub searched-in : (N H : ℕ) (x : List ℤ) (D budget : ℕ) (room : List ℕ) → FindAnswers N H x D budget room
+  pub searched-report : (distance budget text : List ℕ) → FoundReportAnswers distance budget text
   pub stepped-levels : (s : Stream) (number left right : ℕ) (text : List ℕ) (levels out : List ℤ) → StepLevelsAnswers s number left right text levels out
   pub state-stepped-levels : (state : List ℤ) (number left right : ℕ) (text : List ℕ) (levels out : List ℤ) → StateStepLevelsAnswers state number left right text levels out
 
@@ -329,6 +336,28 @@ pub record Sparse-kept : Type 0 where
       SparselyBack N H T routes x (playedOut order N H c out) × ((Q : ℕ → ℕ) → BlockByBlock N H Q routes order x c → Back N H Q routes x (playedOut order N H c out))
   -- with one T for all blocks T stands there
   pub one : (N T : ℕ) → sparseDistance N T T ≡ (T + 4 * N) / (8 * N)
+
+-- ================ THE COARSEST STEP (P13): the sure step passes by the told distance, every step tried and failed has a sample beyond D, with none untried the step returned is the largest that passes, and the numbers add up
+pub record Coarsest-found : Type 0 where
+  -- what `coarsest_step` answers of a recording, returning 0
+  pub found : (N H : ℕ) (x : List ℤ) (D budget : ℕ) → ((i : ℕ) → i < length x → Sample (at x i)) → coarsestAnswer N H x D budget .code ≡ 0 → Found-on N H x D budget (coarsestAnswer N H x D budget)
+  -- the sure step passes whatever the recording holds, by the told distance; so does every smaller one
+  pub sure-keeps : (N H : ℕ) (x : List ℤ) (D : ℕ) → ((i : ℕ) → i < length x → Sample (at x i)) → Tabled N → Counted H → length x ≡ H * (N / 2) → Keeps N H x D (sure D)
+  pub told : (N H : ℕ) (x : List ℤ) (D step : ℕ) → ((i : ℕ) → i < length x → Sample (at x i)) → Tabled N → Counted H → length x ≡ H * (N / 2) → 1 ≤ step → step ≤ 32 * D + 15 → Keeps N H x D step
+  -- by the sharper distance of what is beyond demand 3, 32 × D + 16 passes too: so no search ends because all steps above the sure one have failed
+  pub next : (N H : ℕ) (x : List ℤ) (D : ℕ) → ((i : ℕ) → i < length x → Sample (at x i)) → Tabled N → Counted H → length x ≡ H * (N / 2) → Keeps N H x D (32 * D + 16)
+  -- a trial is what it says: a step that passes keeps every sample within D, and one that does not has a sample beyond it
+  pub trial : (N H : ℕ) (x : List ℤ) (D step : ℕ) → ((i : ℕ) → i < length x → Sample (at x i)) → passes N H x D step ≡ true → Keeps N H x D step
+  pub trial-fails : (N H : ℕ) (x : List ℤ) (D step : ℕ) → ((i : ℕ) → i < length x → Sample (at x i)) → passes N H x D step ≡ false → Fails N H x D step
+  -- 'every coefficient so stepped': what the synthesis is handed was brought block by block through `quantise` and `dequantise`, with a table that gives every coefficient this step
+  pub stored : (N H : ℕ) (x : List ℤ) → ((i : ℕ) → i < length x → Sample (at x i)) → (room : List ℤ) → recordedCode Direct N H x room ≡ 0 → (order : Order) (text : List ℕ) → Ruled N text → (step : ℕ) →
+      ((k : ℕ) → k < N / 2 → stepAt (N / 2) text k ≡ step) → StoredOnce N H (λ b. text) Direct order x (stepped step (recordedOut Direct order N H x room))
+  -- and `told_distance` tells D of a table whose largest step is the sure one
+  pub told-is : (N : ℕ) (text : List ℕ) (D : ℕ) → Tabled N → Ruled N text → coarsest (N / 2) text ≡ sure D → D ≤ 32 → L.told Direct N text ≡ record { code = 0; distance = D }
+  -- with D = 32 the sure step is 1,024, so that no trial is made; and what a budget of 0 gives for 31 and for 0
+  pub at-32 : (N H : ℕ) (x : List ℤ) (budget : ℕ) → coarsestAnswer N H x 32 budget .code ≡ 0 → coarsestAnswer N H x 32 budget ≡ record { code = 0; step = 1024; trials = 0; untried = 0 }
+  pub at-31 : (N H : ℕ) (x : List ℤ) → coarsestAnswer N H x 31 0 .code ≡ 0 → coarsestAnswer N H x 31 0 ≡ record { code = 0; step = 1007; trials = 0; untried = 17 }
+  pub at-0 : (N H : ℕ) (x : List ℤ) → coarsestAnswer N H x 0 0 .code ≡ 0 → coarsestAnswer N H x 0 0 ≡ record { code = 0; step = 15; trials = 0; untried = 1009 }
 
 -- ================ BEYOND DEMAND 3: each sample within (3 Q + 36) / 64, equal where both its blocks have a Q up to 9, with Q + 7 for Q after the short route and Q + 14 after the double one
 pub record Beyond : Type 0 where

@@ -33,7 +33,7 @@ use Rattle.level_calls.specs.LevelCalls.{backBy, levelsBy, quantiseCauses, quan
 use Rattle.level_calls.specs.declared.Told.{Told}
 use Rattle.level_calls.specs.LevelCallLaws.{told-refused, told-taken, tell-refused, tell-long, tell-taken}
 use Rattle.steps.specs.Table.{digits, verdict}
-use Rattle.table_report.specs.Report as R
+use Rattle.text.specs.Refusal.{refusal}
 use Rattle.table_report.specs.Report.{lengthIn, lengthOf, reportOf}
 use Rattle.table_report.specs.ReportLaws.{of-some, no-length, turned-away, taken-report}
 use Rattle.demands.specs.StepLaws.{code-other, sound-seven, last-stream}
@@ -147,7 +147,7 @@ report-answers number text = record {
     some : (N : ℕ) → Typed number N → ¬ (lengthOf number ≡ 0)
     some N t z = omega (arith, typed-length number N t, z, length-of N (t .length-is) .some)
 
-    go : ((N : ℕ) → ¬ Typed number N) → Dec (lengthOf number ≡ 0) → reportOf number text ≡ R.refusal 1 0
+    go : ((N : ℕ) → ¬ Typed number N) → Dec (lengthOf number ≡ 0) → reportOf number text ≡ refusal 1 0
     go n (yes e) = no-length number text e
     go n (no m) = absurd (n (lengthOf number) (length-typed number m))
 

@@ -92,7 +92,7 @@ load-offers =
     load-offer 1 1 0 (spectrum back-1) ∷ []
 
 -- ---- the definitions that the tests below open
-ruled : Unit {0}
+unfoldable pub ruled : Unit {0}
 unfolding verdict byLines malformed joints rowOf numbersOf bounded fields lines remainder split inFront ended unended isNumber value isSigned natural naturalFrom isNatural leadingZero isDigit stepAt stepIn coarsest coarsestIn larger
 ruled = tt
 

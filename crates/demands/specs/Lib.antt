@@ -11,6 +11,7 @@ pub mod Recordings
 pub mod BackLaws
 pub mod Sparse
 pub mod SparseLaws
+pub mod Coarse
 pub mod Answers
 pub mod Demands
 pub mod OrderLaws
@@ -25,6 +26,7 @@ pub mod TableAnswerLaws
 pub mod LevelAnswerLaws
 pub mod ShareLaws
 pub mod OrderAnswerLaws
+pub mod CoarseAnswerLaws
 pub mod LoadLaws
 pub mod StoredListLaws
 pub mod AnswerLaws
@@ -32,6 +34,8 @@ pub mod ExplainLaws
 pub mod DefinitionLaws
 pub mod DemandLaws
 pub mod UnchangedLaws
+pub mod CoarseLaws
+pub mod CoarseTableLaws
 pub mod Turned
 pub mod TurnLaws
 pub mod Example
@@ -41,4 +45,5 @@ pub mod SparseExampleLaws
 pub mod LevelExampleLaws
 pub mod ShareExampleLaws
 pub mod OrderExampleLaws
+pub mod CoarseExampleLaws
 pub mod ListingLaws

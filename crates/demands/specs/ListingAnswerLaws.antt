@@ -1,7 +1,7 @@
 -- Laws of what the listing program prints: by size, by its first line, by its first faulty line.
-use mathlib.Core.Path.{_≡_, refl, _∙_}
+use mathlib.Core.Path.{_≡_, refl, ap, _∙_}
 use mathlib.Core.Logic.{_≢_}
-use mathlib.Core.Bool.{true, false}
+use mathlib.Core.Bool.{Bool, true, false}
 use mathlib.Core.List.{List, [], _∷_}
 use Prim.Native.Nat.{ℕ, zero, suc, _+_, _/_, _≤_, _<_}
 use native.Mathlib.Nat.{not-suc-le-zero, zero-add}
@@ -15,8 +15,10 @@ use Rattle.cosine.specs.Kernels.{tabled}
 use Rattle.text.specs.Number.{isNumber, value}
 use Rattle.text.specs.Lines.{lines, remainder}
 use Rattle.listing.specs.Hops.{digits, isHop}
+use Rattle.listing.specs.declared.verdict.Verdict.{Verdict}
+use Rattle.listing.specs.VerdictLaws.{Taken, verdict-taken}
 use Rattle.listing.specs.Verdicts.{limit, refused, taken, byHops, byLength, byLines, verdict}
-use Rattle.listing.specs.Print.{refusal}
+use Rattle.text.specs.Refusal.{refusal}
 use Rattle.listing.specs.Listing.{returnedHops, table, listing}
 use Rattle.listing.specs.SizeLaws.{listing-most}
 use Rattle.demands.specs.Answers.{Tabled, Begun, Hops, ListingAnswers}
@@ -95,6 +97,32 @@ module _ (text : List ℕ) where
   unfolding verdict
   too-long p = rw (lt-ltb limit (length text) p)
 
+  -- a listing that is taken
+  pub taken-verdict : (N : ℕ) (hops : List (List ℕ)) → Begun text N hops → Hops N (length hops) hops → length (remainder text) ≡ 0 → verdict text ≡ taken N (length hops)
+  taken-verdict N hops g h z = begun-verdict N hops g ∙ rw zero-add at (by-all N 0 hops (remainder text) h z)
+
+  -- and what is not refused is one
+  pub verdict-listed : verdict text .code ≡ 0 → (N : ℕ) × (hops : List (List ℕ)) × Begun text N hops × Hops N (length hops) hops × (length (remainder text) ≡ 0)
+  verdict-listed z = by (lines text) refl
+    where
+      K : Taken text (verdict text .n) (verdict text .hops)
+      K = verdict-taken text z
+
+      number-by : (first : List ℕ) (hops : List (List ℕ)) → lines text ≡ first ∷ hops → (b : Bool) → isNumber digits first ≡ b → T b
+      number-by first hops e true f = tt
+      number-by first hops e false f = absurd (omega (arith, z, ap (λ (v : Verdict). v .code) (first-bad first hops (K .small) e (λ t. rw f at t))))
+
+      by : (ls : List (List ℕ)) → lines text ≡ ls → (N : ℕ) × (hops : List (List ℕ)) × Begun text N hops × Hops N (length hops) hops × (length (remainder text) ≡ 0)
+      by [] e = absurd (omega (arith, z, ap (λ (v : Verdict). v .code) (none (K .small) e)))
+      by (first ∷ hops) e =
+          let c : length hops ≡ verdict text .hops = omega (arith, rw e at (K .counted)) in (
+            verdict text .n,
+            hops,
+            record { small = K .small; first = first; are = e; number = number-by first hops e (isNumber digits first) refl; named = rw e at (K .first); length-is = K .length-tabled },
+            record { each = λ j p. rw e at (K .hop j (omega (arith, p, c))) },
+            K .ended,
+          )
+
   prints : (N H : ℕ) → verdict text ≡ taken N H → listing text ≡ table N H (returnedHops N text)
   unfolding listing
   prints N H e = rw e
@@ -107,6 +135,6 @@ module _ (text : List ℕ) where
     one = λ p first hops e t n. refuses 0 1 (first-line first hops p e t ∙ untabled (value first) hops (remainder text) n);
     five = λ N H hops g h p n. refuses 4 (H + 2) (begun-verdict N hops g ∙ rw zero-add at (by-bad N 0 H hops (remainder text) h p n));
     five-last = λ N hops g h n. refuses 4 (length hops + 2) (begun-verdict N hops g ∙ rw zero-add at (by-rest N 0 hops (remainder text) h n));
-    taken = λ N hops g h z. prints N (length hops) (begun-verdict N hops g ∙ rw zero-add at (by-all N 0 hops (remainder text) h z));
+    taken = λ N hops g h z. prints N (length hops) (taken-verdict N hops g h z);
     fits = listing-most text;
   }

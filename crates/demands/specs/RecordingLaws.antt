@@ -6,7 +6,6 @@ use native.Mathlib.Nat.{le-trans, suc-mul, mul-le-mul-right, le-max-left, le-max
 use native.Mathlib.Omega.{arith}
 use lib.Dec.{T}
 use lib.IntN.{ℤ, pos, natAbs, _-ℤ_, _+ℤ_}
-use lib.Signed.{leZ-yes}
 use Rattle.arithmetic.specs.Lists.{at}
 use Rattle.arithmetic.specs.Rounding.{rnd, clamp, Sample}
 use Rattle.arithmetic.specs.ListLaws.{getD-table}
@@ -30,7 +29,8 @@ use Rattle.analysis.specs.declared.Route.{Route}
 use Rattle.analysis.specs.declared.Route.the-variants.{Direct, Short, Double}
 use Rattle.analysis.specs.Analysis.{offered, spectrum, coefficients, unitsOf}
 use Rattle.recording.specs.Recordings.{padded, block}
-use Rattle.recording.specs.BlockLaws.{padded-at, padded-each, block-at}
+use Rattle.recording.specs.BlockLaws as B
+use Rattle.recording.specs.BlockLaws.{padded-at, block-at}
 use Rattle.demands.specs.Steps.{Recording, Brought, change, Restored, provedUnits, provedChange}
 
 -- ---- the change where two blocks meet is no less than that of each, and no more than what is asked
@@ -108,11 +108,8 @@ module _ (N : ℕ) (t : T (tabled N)) (H : ℕ) (x : List ℤ) (rec : Recording 
   len = part-of N t
 
   -- ---- the samples of a block
-  silent : Sample (pos 0)
-  silent = record { low = leZ-yes tt; high = leZ-yes tt }
-
   pub block-sample : (b n : ℕ) → n < N → Sample (at (block N x b) n)
-  block-sample b n q = rw (block-at N x b n q) (padded-each N x Sample silent (rec .sample) (b * (N / 2) + n))
+  block-sample = B.block-sample N x (rec .sample)
 
   -- the first hop of block b + 1 is hop b of the recording
   pub block-hop : (b n : ℕ) → suc b ≤ H → n < N / 2 → at (block N x (suc b)) n ≡ at x (b * (N / 2) + n)

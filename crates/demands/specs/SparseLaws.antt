@@ -1,16 +1,15 @@
 -- Sparse changes, the theorems: `sparse-list` and `sparse-calls` for a list of steps, `sparse-once` and `sparse-blocks` for the calls over whole recordings.
 use mathlib.Core.Path.{_≡_, sym, ap, _∙_}
 use mathlib.Core.List.{List}
-use Prim.Native.Nat.{ℕ, zero, suc, _+_, _*_, _/_, _%_, _≤_, _<_, max}
+use Prim.Native.Nat.{ℕ, suc, _+_, _*_, _/_, _%_, _≤_, _<_, max}
 use native.Mathlib.Nat.{le-trans, le-max-left, le-max-right, div-lt-iff-lt-mul}
 use native.Mathlib.Omega.{arith}
-use native.Mathlib.Decide.{ℕ-discrete}
 use lib.Dec.{T as Holds}
 use lib.ListN.{length}
 use lib.IntN.{ℤ, natAbs, _-ℤ_}
 use Rattle.arithmetic.specs.Lists.{at}
 use Rattle.arithmetic.specs.Sums.{sumℕ}
-use Rattle.arithmetic.specs.SumLaws.{sumℕ-ext}
+use Rattle.arithmetic.specs.SumLaws.{sumℕ-ext, sumℕ-term}
 use Rattle.arithmetic.specs.Rounding.{Sample}
 use Rattle.arithmetic.specs.JoinLaws.{Place}
 use Rattle.arithmetic.specs.TestLaws.{is-T}
@@ -44,15 +43,6 @@ use Rattle.demands.specs.BackLaws.{left-at, back-by-one-call, back-block
 use Rattle.demands.specs.Sparse.{changes, SparseBlock, SparseNumbered, SparseOnce, SparseBlocks, sparseDistance, SparselyRestored, SparselyReturned, SparselyBack}
 
 -- ---- no change is larger than their sum
-sumℕ-term : (M : ℕ) (f : ℕ → ℕ) (k : ℕ) → k < M → f k ≤ sumℕ M f
-unfolding sumℕ
-sumℕ-term zero f k p = absurd (omega arith)
-sumℕ-term (suc M) f k p = go (ℕ-discrete k M) (sumℕ-term M f k)
-  where
-    go : Dec (k ≡ M) → (k < M → f k ≤ sumℕ M f) → f k ≤ sumℕ M f + f M
-    go (yes e) ih = rw e (omega arith)
-    go (no n) ih = le-trans (ih (omega (arith, n))) (omega arith)
-
 change-within : (M : ℕ) (c X : List ℤ) (k : ℕ) → k < M → natAbs (at c k -ℤ at X k) ≤ changes M c X
 unfolding changes
 change-within M c X = sumℕ-term M (λ k. natAbs (at c k -ℤ at X k))

@@ -40,6 +40,13 @@ module _ (z : ℤ) where
       go false false e k =
           rw (clipped-between e k) (h (simp bounds (omega (arith, simp ints at (ltZ-false z (negℤ limit) e), simp ints at (ltZ-false limit z k)))))
 
+  -- what is within the limit is left as it is
+  pub clipped-within : natAbs z ≤ 2 ^ 29 → clipped z ≡ z
+  clipped-within s = by-clip (λ q. q ≡ z)
+      (λ h. absurd (omega (arith, simp ints at h, simp bounds at s)))
+      (λ h. absurd (omega (arith, simp ints at h, simp bounds at s)))
+      (λ h. refl)
+
   pub clipped-small : natAbs (clipped z) ≤ 2 ^ 29
   clipped-small = by-clip (λ q. natAbs q ≤ 2 ^ 29) (λ h. omega arith) (λ h. omega arith) (λ h. h)
 

@@ -1,5 +1,5 @@
 // A coefficient by its step, and back (document 02, P8), and whole blocks of them.
-// No function here is a public call: the calls on step tables call them, after every check.
+// No function here is a public call: the calls on step tables call them, after every check, and `coarsest` calls `magnitude`.
 ghost use mathlib.Core.Path.{_≡_};
 ghost use Prim.Native.Nat.{_+_, _/_, _^_, _≤_};
 ghost use lib.ListN.{length};
@@ -16,8 +16,8 @@ fn nearest(size: u32, step: u32) -> u32
     (size + step / 2) / step
 }
 
-// The size of a coefficient.
-fn magnitude(x: i32) -> u32
+// The size of a number.
+pub fn magnitude(x: i32) -> u32
     requires { ⌜ natAbs x ≤ 2 ^ 29 ⌝ }
     ensures { λ r. ⌜ r ≡ natAbs x ⌝ }
 {

@@ -15,7 +15,8 @@ use Rattle.text.specs.Lines.{inFront, split, ended, unended, lines, remainder, 
 use Rattle.listing.specs.declared.verdict.Verdict.{Verdict}
 use Rattle.listing.specs.Hops.{isSample, isHop, samples}
 use Rattle.listing.specs.Verdicts.{refused, taken, byHops, byLength, byLines, verdict, hopsOf, hopOf}
-use Rattle.listing.specs.Print.{header, row, refusal}
+use Rattle.text.specs.Refusal.{refusal}
+use Rattle.listing.specs.Print.{header, row}
 use Rattle.listing.specs.Listing as L
 use Rattle.listing.specs.Listing.{rows}
 

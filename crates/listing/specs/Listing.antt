@@ -9,7 +9,8 @@ use Rattle.analysis.specs.declared.Route.the-variants.{Direct}
 use Rattle.analysis.specs.Analysis.{coefficients}
 use Rattle.recording.specs.Recordings.{block}
 use Rattle.listing.specs.Verdicts.{verdict, hopsOf}
-use Rattle.listing.specs.Print.{header, row, refusal}
+use Rattle.text.specs.Refusal.{refusal}
+use Rattle.listing.specs.Print.{header, row}
 
 -- ---- a listing's hops through the bank
 -- the recording that hops are, one after the other

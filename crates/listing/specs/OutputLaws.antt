@@ -10,8 +10,9 @@ use Rattle.text.specs.Buffers.{Put, Written}
 use Rattle.text.specs.BufferLaws.{put-then, put-length, written}
 use Rattle.listing.specs.declared.verdict.Verdict.{Verdict}
 use Rattle.listing.specs.Verdicts.{verdict}
-use Rattle.listing.specs.VerdictLaws.{Taken, verdict-taken, verdict-code, verdict-line}
-use Rattle.listing.specs.Print.{header, refusal}
+use Rattle.listing.specs.VerdictLaws.{Taken, verdict-taken}
+use Rattle.text.specs.Refusal.{refusal}
+use Rattle.listing.specs.Print.{header}
 use Rattle.listing.specs.Listing.{returnedHops, rows, table, listing}
 use Rattle.listing.specs.SizeLaws.{room, hops-bytes, header-most, table-room, listing-most}
 
@@ -19,12 +20,6 @@ use Rattle.listing.specs.SizeLaws.{room, hops-bytes, header-most, table-
 module _ (before text : List ℕ) (v : Verdict) (is : v ≡ verdict text) (fits : room ≡ length before) where
   listed : {after : List ℕ} {r : ℕ} → Put (listing text) before 0 after r → Written (listing text) before after r
   listed p = written (omega (arith, listing-most text)) p
-
-  pub code-few : v .code ≤ 99999
-  code-few = rw is (omega (arith, verdict-code text))
-
-  pub line-few : v .line ≤ 99999
-  line-few = rw is (omega (arith, verdict-line text))
 
   refused-is : ¬ (v .code ≡ 0) → listing text ≡ refusal (v .code) (v .line)
   unfolding listing

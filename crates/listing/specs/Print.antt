@@ -1,5 +1,5 @@
--- The lines that the listing program prints: definitions. Document 01, 'Listing program' and 'When the bank declines'.
-use mathlib.Core.List.{List, [], _∷_, _++_, map}
+-- The lines that the listing program prints: definitions. Document 01, 'Listing program'.
+use mathlib.Core.List.{List, _++_, map}
 use Prim.Native.Nat.{ℕ}
 use lib.IntN.{ℤ}
 use Rattle.arithmetic.specs.Lists.{table}
@@ -14,9 +14,6 @@ word-hop = ascii "hop"
 abbrev pub word-s : List ℕ
 word-s = ascii "s"
 
-abbrev pub word-refused : List ℕ
-word-refused = ascii "refused"
-
 -- the header hop,s0,.. through s(M-1)
 unfoldable pub header : ℕ → List ℕ
 header M = line word-hop (table M (λ i. word-s ++ decimal i))
@@ -24,7 +21,3 @@ header M = line word-hop (table M (λ i. word-s ++ decimal i))
 -- a hop: its number, and its samples
 unfoldable pub row : ℕ → List ℤ → List ℕ
 row j xs = line (decimal j) (map printed xs)
-
--- a refusal: its number, and the line
-unfoldable pub refusal : ℕ → ℕ → List ℕ
-refusal code at = line word-refused (decimal code ∷ decimal at ∷ [])

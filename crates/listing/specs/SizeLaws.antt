@@ -21,7 +21,8 @@ use Rattle.text.specs.Number.{decimal, printed}
 use Rattle.text.specs.NumberLaws.{number-long}
 use Rattle.text.specs.Lines.{lines, fields, more, line}
 use Rattle.text.specs.LineLaws.{split-weight, lines-weight, parts-weight, behind-weight}
-use Rattle.listing.specs.Print.{word-hop, word-s, word-refused, header, row, refusal}
+use Rattle.text.specs.Refusal.{word-refused, refusal}
+use Rattle.listing.specs.Print.{word-hop, word-s, header, row}
 use Rattle.listing.specs.Hops.{digits, isHop}
 use Rattle.listing.specs.HopLaws.{sample-number, hop-fields, hop-field, hops-counted, hops-length, hops-sample}
 use Rattle.listing.specs.Verdicts.{limit, verdict, hopsOf}

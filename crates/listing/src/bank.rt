@@ -44,7 +44,7 @@ fn step(s: Stream, block: &[i16], out: &mut [i16]) -> Stream
     let n = s.n;
     let m = n / 2;
     let mut x = spectrum_room();
-    analysis::direct::analyse(n, 0, 0, block, &mut x[..m]);
+    direct_bodies::analyse(n, 0, 0, block, &mut x[..m]);
     synthesis::advance(s, &x[..m], out)
 }
 

@@ -5,7 +5,7 @@ ghost use lib.ListN.{length};
 ghost use Rattle.text.specs.Bytes.{comma};
 ghost use Rattle.text.specs.Number.{decimal};
 ghost use Rattle.text.specs.Buffers.{Put};
-ghost use Rattle.listing.specs.Print.{word-s, header, row, refusal};
+ghost use Rattle.listing.specs.Print.{word-s, header, row};
 use text::line::LINE_FEED;
 use text::number::put_digits;
 use text::print::put_byte;
@@ -46,16 +46,5 @@ pub fn put_row(hop: usize, samples: &[i16], out: &mut [u8], from: usize) -> usiz
         at = put_field(samples[i] as i64, out, at);
         i += 1;
     }
-    put_byte(LINE_FEED, out, at)
-}
-
-// The line of a refusal.
-pub fn put_refusal(code: u32, line: usize, out: &mut [u8], from: usize) -> usize
-    requires { ⌜ (code ≤ 99999) × (line ≤ 99999) × (from + 20 ≤ length (now out)) ⌝ }
-    ensures { λ r. ⌜ Put (refusal code line) (now (out .entry)) from (now (out .exit)) r ⌝ }
-{
-    let at = put_text(b"refused", out, from);
-    let at = put_field(code as i64, out, at);
-    let at = put_field(line as i64, out, at);
     put_byte(LINE_FEED, out, at)
 }

@@ -8,6 +8,8 @@ use native.Mathlib.Decide.{decLt}
 use lib.ListN.{length, take, drop, replicate, length-append, length-drop, length-replicate, getD-replicate, replicate-append-replicate, List·getD-append, List·getD-eq-default}
 use lib.Seq.{length-take-le, take-at, drop-at, take-all, take-append-le, drop-append-le, take-append-add, drop-append-add, getD-append-add, getD-take, getD-drop}
 use lib.IntN.{ℤ, pos}
+use lib.Signed.{leZ-yes}
+use Rattle.arithmetic.specs.Rounding.{Sample}
 use Rattle.arithmetic.specs.Lists.{at}
 use Rattle.arithmetic.specs.ListLaws.{part-length}
 use Rattle.recording.specs.Recordings.{silence, padded, standing, block}
@@ -59,6 +61,10 @@ module _ (N : ℕ) (x : List ℤ) where
   pub block-at : (b n : ℕ) → n < N → at (block N x b) n ≡ at (padded N x) (b * (N / 2) + n)
   unfolding block standing
   block-at b n p = getD-take N (drop (b * (N / 2)) (padded N x)) n (pos 0) p ∙ getD-drop (b * (N / 2)) (padded N x) n (pos 0)
+
+  -- of samples, each entry of a block is one
+  pub block-sample : ((i : ℕ) → i < length x → Sample (at x i)) → (b n : ℕ) → n < N → Sample (at (block N x b) n)
+  block-sample each b n p = rw (block-at b n p) (padded-each Sample (record { low = leZ-yes tt; high = leZ-yes tt }) each (b * (N / 2) + n))
 
 -- ---- the blocks of a recording of H hops
 module _ (N H : ℕ) (two : N / 2 + N / 2 ≡ N) (x : List ℤ) (long : length x ≡ H * (N / 2)) where

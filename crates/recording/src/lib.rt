@@ -1,6 +1,6 @@
 // Whole recordings, block by block, their coefficients in either order.
-// No function here is a public call: the public calls over recordings call `analyse` and `synthesise`, under their requires, after every check, and
-// `listing` begins with `silent_block`.
+// No function here is a public call: the public calls over recordings call `analyse` and `synthesise`, under their requires, after every check, `coarsest` calls
+// `blocks_from`, and `listing` begins with `silent_block`.
 ghost use mathlib.Core.Path.{_≡_};
 ghost use Prim.Native.Nat.{_+_, _*_, _/_, _^_, _≤_, _<_};
 ghost use lib.Dec.{T};
@@ -68,7 +68,7 @@ fn block_at(route: Route, n: usize, hops: usize, x: &[i16], b: usize, out: &mut 
 }
 
 // The coefficients of `count` blocks of a recording from `first` on, block after block.
-fn blocks_from(
+pub fn blocks_from(
     route: Route,
     n: usize,
     hops: usize,

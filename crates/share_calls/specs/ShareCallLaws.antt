@@ -4,10 +4,9 @@ use mathlib.Core.Logic.{_≢_}
 use mathlib.Core.Bool.{Bool, true, false, not, cond}
 use mathlib.Core.List.{List, [], _∷_, _++_}
 use Prim.Native.Nat.{ℕ, _/_, _^_, _≤_, _<_}
-use native.Mathlib.Omega.{arith}
 use borrow.Author.Tests.{eq-eqb, ne-eqb}
 use lib.Dec.{T, eqb, eqb→eq, leb→le, ltb→lt}
-use lib.ListN.{length, set}
+use lib.ListN.{length}
 use lib.IntN.{ℤ}
 use Rattle.arithmetic.specs.Lists.{every, Small}
 use Rattle.arithmetic.specs.TestLaws.{both-left, both-right, is-T, is-true}
@@ -176,11 +175,3 @@ module _ (N shape : ℕ) (first first′ second second′ : List ℤ) (place : �
         range-small second (N / 2) (s .second-is) (is-true (both-left c d v)),
         range-small second′ (N / 2) (s .second-changed-is) (is-true (both-right c d v)),
       )
-
--- three numbers written
-pub three : (xs : List ℕ) (a b c : ℕ) → length xs ≡ 3 → set (set (set xs 0 a) 1 b) 2 c ≡ a ∷ b ∷ c ∷ []
-three [] a b c e = absurd (omega (arith, e))
-three (x ∷ []) a b c e = absurd (omega (arith, e))
-three (x ∷ y ∷ []) a b c e = absurd (omega (arith, e))
-three (x ∷ y ∷ z ∷ []) a b c e = cc
-three (x ∷ y ∷ z ∷ w ∷ xs) a b c e = absurd (omega (arith, e))

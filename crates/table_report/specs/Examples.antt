@@ -1,8 +1,7 @@
 -- Lengths and tables with what is printed for them: computed.
-use mathlib.Core.Bool.{Bool, true, false, _&&_}
 use mathlib.Core.List.{List, [], _∷_}
 use Prim.Native.Nat.{ℕ}
-use lib.Dec.{T, eqb}
+use lib.Dec.{T}
 use Rattle.arithmetic.specs.Lists.{every}
 use Rattle.cosine.specs.Kernels.{lengths, tabled, shortLengths, shortTabled}
 use Rattle.split.specs.ShortRoute as R
@@ -11,10 +10,11 @@ use Rattle.analysis.specs.Analysis.{offered, unitsOf}
 use Rattle.checks.specs.Causes.{firstCause}
 use Rattle.text.specs.Bytes.{ascii}
 use Rattle.text.specs.Number.{isDigit, leadingZero, isNatural, naturalFrom, natural, isSigned, isNumber, value, digitsBy, decimal}
-use Rattle.text.specs.Lines.{inFront, split, ended, unended, lines, remainder, fields, more, line}
+use Rattle.text.specs.Refusal.{refusal}
+use Rattle.text.specs.Lines.{sameText, inFront, split, ended, unended, lines, remainder, fields, more, line}
 use Rattle.steps.specs.Table.{bounded, numbersOf, rowOf, malformed, joints, byLines, verdict, larger, coarsestIn, coarsest}
 use Rattle.level_calls.specs.LevelCalls.{toldCauses, toldCode, half, distance, told}
-use Rattle.table_report.specs.Report.{lengthIn, lengthOf, refusal, saying, distanceLine, offeredLine, takenLines, byTable, reportOf}
+use Rattle.table_report.specs.Report.{lengthIn, lengthOf, saying, distanceLine, offeredLine, takenLines, byTable, reportOf}
 
 pub record Example : Type 0 where
   pub number : List ℕ
@@ -48,12 +48,6 @@ examples =
     gives (ascii "24") (ascii "0,5,1\n5,11,1\n") (ascii "refused,11,2\n") ∷
     []
 
-unfoldable pub same : List ℕ → List ℕ → Bool
-same [] [] = true
-same [] (y ∷ ys) = false
-same (x ∷ xs) [] = false
-same (x ∷ xs) (y ∷ ys) = eqb x y && same xs ys
-
-pub as-printed : T (every (λ (e : Example). same (reportOf (e .number) (e .text)) (e .prints)) examples)
-unfolding examples every same reportOf byTable takenLines offeredLine distanceLine saying refusal lengthOf lengthIn tabled lengths shortTabled shortLengths R.offered D.offered offered unitsOf told toldCode toldCauses half distance firstCause verdict byLines malformed joints rowOf numbersOf bounded coarsest coarsestIn larger fields lines remainder split inFront ended unended line more isNumber value isSigned natural naturalFrom isNatural leadingZero isDigit decimal digitsBy
+pub as-printed : T (every (λ (e : Example). sameText (reportOf (e .number) (e .text)) (e .prints)) examples)
+unfolding examples every sameText reportOf byTable takenLines offeredLine distanceLine saying refusal lengthOf lengthIn tabled lengths shortTabled shortLengths R.offered D.offered offered unitsOf told toldCode toldCauses half distance firstCause verdict byLines malformed joints rowOf numbersOf bounded coarsest coarsestIn larger fields lines remainder split inFront ended unended line more isNumber value isSigned natural naturalFrom isNatural leadingZero isDigit decimal digitsBy
 as-printed = tt

@@ -11,13 +11,11 @@ use Rattle.analysis.specs.Analysis.{offered}
 use Rattle.text.specs.Bytes.{ascii}
 use Rattle.text.specs.Number.{isNumber, value, decimal}
 use Rattle.text.specs.Lines.{line}
+use Rattle.text.specs.Refusal.{refusal}
 use Rattle.steps.specs.Table.{digits, verdict, coarsest}
 use Rattle.level_calls.specs.LevelCalls.{told}
 
 -- the words
-abbrev pub word-refused : List ℕ
-word-refused = ascii "refused"
-
 abbrev pub word-taken : List ℕ
 word-taken = ascii "taken"
 
@@ -39,10 +37,6 @@ unfoldable pub lengthOf : List ℕ → ℕ
 lengthOf number = cond (isNumber digits number) (lengthIn (value number)) 0
 
 -- ---- the lines, each ended by a line feed
--- a refusal: its number, and the line of the table, or 0 for none
-unfoldable pub refusal : ℕ → ℕ → List ℕ
-refusal code at = line word-refused (decimal code ∷ decimal at ∷ [])
-
 -- a word and a number
 unfoldable pub saying : List ℕ → ℕ → List ℕ
 saying word n = line word (decimal n ∷ [])

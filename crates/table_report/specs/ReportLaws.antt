@@ -1,12 +1,11 @@
--- Laws of the report: its length, its numbers' digits, and what it is by its tests.
+-- Laws of the report: its length, and what it is by its tests.
 use mathlib.Core.Path.{_≡_, refl, _∙_}
 use mathlib.Core.Bool.{Bool, true, false, cond}
 use mathlib.Core.List.{List, [], _∷_, _++_, append-assoc, append-nil}
-use Prim.Native.Nat.{ℕ, _/_, _^_, _≤_, _<_}
+use Prim.Native.Nat.{ℕ, _/_}
 use native.Mathlib.Omega.{arith}
 use borrow.Author.Tests.{eq-eqb, ne-eqb}
 use lib.Dec.{T}
-use lib.ListN.{length}
 use lib.IntN.{ℤ, pos, negsuc, natAbs}
 use lib.Signed.{ltZ}
 use Rattle.arithmetic.specs.IntegerLaws.{ints}
@@ -16,13 +15,11 @@ use Rattle.analysis.specs.declared.Route.{Route}
 use Rattle.analysis.specs.Analysis.{offered}
 use Rattle.text.specs.Bytes.{lineFeed, comma}
 use Rattle.text.specs.Number.{isNumber, value, decimal}
-use Rattle.text.specs.NumberLaws as Numbers
 use Rattle.text.specs.Lines.{line, more}
-use Rattle.text.specs.Buffers.{Put, Written}
-use Rattle.text.specs.BufferLaws.{written}
+use Rattle.text.specs.Refusal.{refusal}
 use Rattle.steps.specs.declared.joint.Verdict.{Verdict}
 use Rattle.steps.specs.Table.{digits, verdict}
-use Rattle.table_report.specs.Report.{word-refused, lengthIn, lengthOf, refusal, saying, distanceLine, offeredLine, takenLines, byTable, reportOf}
+use Rattle.table_report.specs.Report.{lengthIn, lengthOf, saying, distanceLine, offeredLine, takenLines, byTable, reportOf}
 
 -- ---- the length
 pub in-below : (z : ℤ) → ltZ z (pos 0) ≡ true → lengthIn z ≡ 0
@@ -65,18 +62,10 @@ length-tabled number n = go (isNumber digits number) refl
     go true e = rw (of-some number e) (in-length (value number) (λ z. n (of-some number e ∙ z)))
     go false e = absurd (n (of-none number e))
 
--- ---- a machine number has 20 digits at most
-pub decimal-machine : (n : ℕ) → n < 2 ^ 64 → length (decimal n) ≤ 20
-decimal-machine n h = Numbers.decimal-most 19 n (omega arith)
-
 -- ---- the lines, part by part
 pub saying-is : (word : List ℕ) (n : ℕ) → word ++ (comma ∷ decimal n) ++ (lineFeed ∷ []) ≡ saying word n
 unfolding saying line more
 saying-is word n = simp (append-assoc, append-nil)
-
-pub refusal-is : (code at : ℕ) → word-refused ++ (comma ∷ decimal code) ++ (comma ∷ decimal at) ++ (lineFeed ∷ []) ≡ refusal code at
-unfolding refusal line more
-refusal-is code at = simp (append-assoc, append-nil)
 
 -- ---- the line of a route that is not offered everywhere
 pub offered-none : (word : List ℕ) (route : Route) (N : ℕ) (text : List ℕ) → offered route N ≡ false → offeredLine word route N text ≡ []
@@ -86,10 +75,6 @@ offered-none word route N text e = rw e
 pub offered-some : (word : List ℕ) (route : Route) (N : ℕ) (text : List ℕ) → offered route N ≡ true → offeredLine word route N text ≡ distanceLine word route N text
 unfolding offeredLine
 offered-some word route N text e = rw e
-
--- ---- a text put at the start of a buffer in few enough bytes
-pub in-room : {text before after : List ℕ} {r : ℕ} → r ≤ length before → Put text before 0 after r → Written text before after r
-in-room h p = written (omega (arith, p .behind)) p
 
 -- ---- what is printed, by the tests
 module _ (number text : List ℕ) where

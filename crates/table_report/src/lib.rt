@@ -10,10 +10,10 @@ ghost use Rattle.text.specs.Buffers.{Put, Written};
 ghost use Rattle.steps.specs.Table.{tableCode};
 ghost use Rattle.table_report.specs.Report.{lengthIn, lengthOf, distanceLine, offeredLine, takenLines, reportOf};
 use analysis::Route;
-use print::put_refusal;
 use print::put_saying;
 use text::number::is_number;
 use text::number::value;
+use text::refusal::put_refusal;
 
 // Room for whatever is printed.
 pub const ROOM: usize = 128;

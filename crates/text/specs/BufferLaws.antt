@@ -62,6 +62,10 @@ written {text} {before} {after} {r} fits p = record {
   rest = let e : r ≡ length text = omega (arith, p .behind) in rw (p .holds ∙ stored-is before 0 text (omega arith), e) (rw zero-add (drop-at text (drop (length text) before) (length text) refl));
 }
 
+-- the same where it ended within the buffer
+pub in-room : {text before after : List ℕ} {r : ℕ} → r ≤ length before → Put text before 0 after r → Written text before after r
+in-room h p = written (omega (arith, p .behind)) p
+
 -- what was written is a part of the buffer
 module _ (text before after : List ℕ) (r : ℕ) (w : Written text before after r) where
   pub written-part : r ≡ length (take r after)

@@ -3,8 +3,10 @@ pub mod Number
 pub mod Lines
 pub mod Columns
 pub mod Buffers
+pub mod Refusal
 pub mod NumberLaws
 pub mod LineLaws
 pub mod ScanLaws
 pub mod BufferLaws
 pub mod ColumnLaws
+pub mod RefusalLaws

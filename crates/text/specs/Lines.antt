@@ -1,5 +1,5 @@
 -- The lines of a text, and the fields of a line: definitions. Document 01, 'Listing program'.
-use mathlib.Core.Bool.{cond}
+use mathlib.Core.Bool.{Bool, true, false, cond}
 use mathlib.Core.List.{List, [], _∷_, _++_}
 use Prim.Native.Nat.{ℕ, zero, suc, _+_}
 use lib.Dec.{eqb}
@@ -69,3 +69,10 @@ more (f ∷ fs) = comma ∷ (f ++ more fs)
 -- a line of a first field and further ones, ended by a line feed
 unfoldable pub line : List ℕ → List (List ℕ) → List ℕ
 line f fs = f ++ more fs ++ (lineFeed ∷ [])
+
+-- two texts have the same bytes: a test, for computed examples
+unfoldable pub sameText : List ℕ → List ℕ → Bool
+sameText [] [] = true
+sameText [] (y ∷ ys) = false
+sameText (x ∷ xs) [] = false
+sameText (x ∷ xs) (y ∷ ys) = cond (eqb x y) (sameText xs ys) false

@@ -5,7 +5,7 @@ use native.Mathlib.Omega.{arith}
 use lib.ListN.{length}
 use lib.Seq.{length-take-le}
 use Rattle.text.specs.BufferLaws.{put-length}
-use Rattle.table_report.specs.ReportLaws.{decimal-machine}
+use Rattle.text.specs.RefusalLaws.{decimal-machine}
 use borrow.Author.Needs.{needs}
 use Rattle.check_levels.proofs.show_report_at.Statement.{statement}
 use Rattle.check_levels.proofs.show_report_at.Tie as tie

@@ -6,7 +6,7 @@ use lib.ListN.{length}
 use Rattle.listing.specs.declared.verdict.Verdict.{Verdict}
 use Rattle.listing.specs.Verdicts.{verdict}
 use Rattle.listing.specs.SizeLaws.{room}
-use Rattle.listing.specs.OutputLaws.{code-few, line-few, refused-written, taken, half-few, header-room, rows-room, rows-written}
+use Rattle.listing.specs.OutputLaws.{refused-written, taken, half-few, header-room, rows-room, rows-written}
 use Rattle.listing.proofs.round_trip.Statement.{statement}
 use Rattle.listing.proofs.round_trip.Tie as tie
 
@@ -45,15 +45,12 @@ verify-requires : tie.Need-verify-requires
 verify-requires c κs = search needs
 
 put-refusal-requires : tie.Need-put-refusal-requires
-put-refusal-requires c κs =
-    let out = start c .args .out .now in
-    let text = start c .args .input .now in
-    (code-few out text (v c) (is c) (fits c), line-few out text (v c) (is c) (fits c), omega (arith, fits c))
+put-refusal-requires c κs = omega (arith, fits c)
 
 returns : tie.Need-returns
 returns c =
     let a = c .before in
-    refused-written (start a .args .out .now) (start a .args .input .now) (v a) (is a) (fits a) (a .before .if1 .taken) (c .put-refusal .ensures)
+    refused-written (start a .args .out .now) (start a .args .input .now) (v a) (is a) (fits a) (a .before .if1 .taken) (c .put-refusal .ensures .0)
 
 put-header-requires : tie.Need-put-header-requires
 put-header-requires c κs =

@@ -7,9 +7,10 @@ use Prim.Native.Nat.{ℕ, _/_}
 use native.Mathlib.Omega.{arith}
 use borrow.Author.Tests.{not-true, not-false}
 use lib.ListN.{length, length-set}
+use Rattle.arithmetic.specs.ListLaws.{three}
 use Rattle.checks.specs.LimitLaws.{hop-sixes}
 use Rattle.share_calls.specs.ShareCalls.{sizeCode, ranged, numbersOf}
-use Rattle.share_calls.specs.ShareCallLaws.{Sizes, sizes, ranges, name-sized-away, name-long, name-out-of-range, name-taken, three}
+use Rattle.share_calls.specs.ShareCallLaws.{Sizes, sizes, ranges, name-sized-away, name-long, name-out-of-range, name-taken}
 use borrow.Author.Needs.{needs}
 use Rattle.share_calls.proofs.name_share.Statement.{statement}
 use Rattle.share_calls.proofs.name_share.Tie as tie

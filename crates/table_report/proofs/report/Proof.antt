@@ -5,11 +5,12 @@ use Prim.Native.Nat.{ℕ, _/_}
 use native.Mathlib.Omega.{arith}
 use lib.Dec.{T}
 use Rattle.cosine.specs.Kernels.{tabled}
+use Rattle.text.specs.BufferLaws.{in-room}
 use Rattle.steps.specs.declared.joint.Verdict.{Verdict}
 use Rattle.steps.specs.Table.{verdict}
 use Rattle.level_calls.specs.LevelCallLaws.{hop-some, hop-most}
 use Rattle.table_report.specs.Report.{lengthOf}
-use Rattle.table_report.specs.ReportLaws.{length-tabled, in-room, no-length, turned-away, taken-report}
+use Rattle.table_report.specs.ReportLaws.{length-tabled, no-length, turned-away, taken-report}
 use borrow.Author.Needs.{needs}
 use Rattle.table_report.proofs.report.Statement.{statement}
 use Rattle.table_report.proofs.report.Tie as tie

@@ -10,7 +10,7 @@ use borrow.Author.Needs.{needs}
 use lib.ListN.{length, length-set}
 use Rattle.checks.specs.LimitLaws.{counted-most}
 use Rattle.share_calls.specs.ShareCalls.{numbersOf}
-use Rattle.share_calls.specs.ShareCallLaws.{three}
+use Rattle.arithmetic.specs.ListLaws.{three}
 use Rattle.share_calls.specs.RecordingShares.{placeCode, bothRanged, numberedFrom}
 use Rattle.share_calls.specs.RecordingShareLaws.{Placed, places, both-ranges, name-placed-away, name-long, name-out-of-range, name-taken, share-block}
 use Rattle.share_calls.proofs.recording.name_share_recording.Statement.{statement}

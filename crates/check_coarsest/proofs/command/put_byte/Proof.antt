@@ -1,0 +1,24 @@
+-- `put_byte` is safe: a byte behind the buffer is not put.
+use native.Mathlib.Omega.{arith}
+use lib.ListN.{length-set}
+use borrow.Author.Needs.{needs}
+use Rattle.check_coarsest.proofs.command.put_byte.Statement.{statement}
+use Rattle.check_coarsest.proofs.command.put_byte.Tie as tie
+
+returns : tie.Need-returns
+returns c = search needs
+
+slice-write-buf : tie.Need-slice-write-buf
+slice-write-buf c = search needs
+
+add-result : tie.Need-add-result
+add-result c = search needs
+
+same-length : tie.Need-same-length
+same-length c = search needs
+
+returns-2 : tie.Need-returns-2
+returns-2 c = simp length-set (omega arith)
+
+pub put-byte-spec : {M : Type 1} → statement M
+put-byte-spec = tie.close (tie.spec returns slice-write-buf add-result same-length returns-2)

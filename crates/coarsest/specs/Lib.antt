@@ -1,0 +1,3 @@
+pub mod Coarsest
+pub mod SteppedLaws
+pub mod TrialLaws

@@ -1,0 +1,2 @@
+pub mod CoarsestCalls
+pub mod CoarsestCallLaws

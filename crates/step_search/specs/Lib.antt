@@ -1,0 +1,4 @@
+pub mod Search
+pub mod Progress
+pub mod SearchLaws
+pub mod ProgressLaws
