@@ -32,9 +32,9 @@ static const size_t batches[LENGTHS] = {MOST_BLOCKS, 256, 128, 64, 32, 32};
 
 /* For each length a recording of random samples between two hops of zeros, its coefficients by direct analysis at long joints, those of a batch at
  * short joints, those of a batch by frequency, a step table, plain C's levels of a batch by it, what they come back as, the sound of that, and what
- * moved samples in it, a batch of silence that ends in a click, and room for every result. The last hop of a batch is zeros too, so that its blocks
- * are those of a recording of its own, of one hop fewer. Sound begins with the run-in, so that each sample returns at its place in the padded
- * recording. */
+ * moved samples in it, the floats of a batch and the pairs of its highest and lowest ones, a batch of silence that ends in a click, and room for
+ * every result. The last hop of a batch is zeros too, so that its blocks are those of a recording of its own, of one hop fewer. Sound begins with the
+ * run-in, so that each sample returns at its place in the padded recording. */
 static int16_t all_padded[LENGTHS][(LONGEST + 2) * MOST_M], *padded;
 static int32_t all_spectra[LENGTHS][(LONGEST + 1) * MOST_M], *spectra;
 static int32_t all_short_joints[LENGTHS][BATCH], *short_joints;
@@ -45,10 +45,13 @@ static int32_t all_levels[LENGTHS][BATCH], *levels;
 static int32_t all_restored[LENGTHS][BATCH], *restored;
 static int16_t all_restored_sound[LENGTHS][BATCH], *restored_sound;
 static uint32_t all_movers[LENGTHS][3 * MOST_BLOCKS], *expected_movers;
+static double all_floats[LENGTHS][BATCH], *expected_floats;
+static double all_pairs[LENGTHS][2 * MOST_BLOCKS], *expected_pairs;
 static int16_t all_late_clicks[LENGTHS][BATCH], *late_click;
 static int32_t coefficients[(LONGEST + 1) * MOST_M];
 static int16_t sound[(LONGEST + 1) * MOST_M];
 static uint32_t movers[3 * MOST_BLOCKS], found[3];
+static double values[BATCH];
 static int64_t tail[MOST_M];
 
 static uint32_t refused;
@@ -89,6 +92,8 @@ enum { COARSEST = 1024, CLICK = 7, SURE = 32 * (CLICK - 1) + 15 };
     CALL(whose, dequantise, direct, table, table_length, levels, coefficients)        \
     CALL(whose, step_levels, direct, table, table_length, levels, sound)              \
     CALL(whose, largest_share, direct, spectra, restored, movers)                     \
+    CALL(whose, floats, direct, spectra, values)                                      \
+    CALL(whose, highest_lowest, direct, spectra, values)                              \
     CALL(whose, recording_direct_by_frequency, direct, padded, coefficients)          \
     CALL(whose, recording_short_by_frequency, by_short_route, padded, coefficients)   \
     CALL(whose, recording_double_by_frequency, by_double_route, padded, coefficients) \
@@ -151,6 +156,13 @@ CALLS(before)
         }                                                                                                                          \
     }
 
+#define PLAIN_FLOATS(call, count)                                                                                                  \
+    static void run_##call(size_t n, size_t blocks)                                                                                \
+    {                                                                                                                              \
+        for (size_t b = 0; b < blocks; b++)                                                                                        \
+            refused |= call(n, spectra + b * (n / 2), n / 2, values + b * (count), count);                                         \
+    }
+
 #define PLAIN_SEARCH(name, variant, ...)                                      \
     static void run_##variant##_##name(size_t n, size_t blocks)               \
     {                                                                         \
@@ -183,6 +195,10 @@ PLAIN_STEP_LEVELS(plain_o3_step_levels)
 PLAIN_STEP_LEVELS(plain_native_step_levels)
 PLAIN_LARGEST_SHARE(plain_o3_largest_share)
 PLAIN_LARGEST_SHARE(plain_native_largest_share)
+PLAIN_FLOATS(plain_o3_floats, n / 2)
+PLAIN_FLOATS(plain_o3_highest_lowest, 2)
+PLAIN_FLOATS(plain_native_floats, n / 2)
+PLAIN_FLOATS(plain_native_highest_lowest, 2)
 PLAIN_SEARCHES(plain_o3)
 PLAIN_SEARCHES(plain_native)
 
@@ -320,12 +336,13 @@ static void avtx_synthesis(size_t n, size_t blocks)
 }
 #endif
 
-/* What a contender's result is held to before it is timed, numbers, sound behind the run-in, what is named, or what a search finds (step, trials,
- * untried), how many of them a block has, 0 standing for M, and how far it may be from them. From THERE_AND_BACK on they are those of the coarsest
- * step, which has a table of its own. */
+/* What a contender's result is held to before it is timed, numbers, sound behind the run-in, what is named, floats bit by bit, or what a search finds
+ * (step, trials, untried), how many of them a block has, 0 standing for M, and how far it may be from them. From THERE_AND_BACK on they are those of
+ * the coarsest step, which has a table of its own. */
 enum result {
     COEFFICIENTS, NEAR_COEFFICIENTS, DOUBLE_COEFFICIENTS, FLOAT_COEFFICIENTS, SHORT_JOINTS, NEAR_SHORT_JOINTS, DOUBLE_SHORT_JOINTS, SOUND, FLOAT_SOUND,
-    LEVELS, RESTORED, RESTORED_SOUND, MOVERS, IN_BANDS, NEAR_IN_BANDS, DOUBLE_IN_BANDS, THERE_AND_BACK, PASSED, FAILED, FAILED_10, FAILED_100
+    LEVELS, RESTORED, RESTORED_SOUND, MOVERS, FLOATS, PAIRS, IN_BANDS, NEAR_IN_BANDS, DOUBLE_IN_BANDS, THERE_AND_BACK, PASSED, FAILED, FAILED_10,
+    FAILED_100
 };
 
 #define FAILED_AFTER(trials) {SURE, trials, COARSEST - trials - SURE}
@@ -333,6 +350,7 @@ static const struct {
     int32_t **numbers;
     int16_t **sound;
     uint32_t **movers;
+    double **floats;
     size_t each;
     uint32_t found[3];
     long apart;
@@ -350,6 +368,8 @@ static const struct {
     [RESTORED] = {.numbers = &restored},
     [RESTORED_SOUND] = {.sound = &restored_sound},
     [MOVERS] = {.movers = &expected_movers, .each = 3},
+    [FLOATS] = {.floats = &expected_floats},
+    [PAIRS] = {.floats = &expected_pairs, .each = 2},
     [IN_BANDS] = {.numbers = &by_frequency},
     [NEAR_IN_BANDS] = {.numbers = &by_frequency, .apart = 16},
     [DOUBLE_IN_BANDS] = {.numbers = &by_frequency, .apart = 32},
@@ -400,6 +420,9 @@ static struct contender contenders[] = {
     ROW(name ", step on levels", whose, step_levels, RESTORED_SOUND)
 #define ON_SHARES(name, whose)                                                              \
     ROW(name ", largest share", whose, largest_share, MOVERS)
+#define AS_FLOATS(name, whose)                                                              \
+    ROW(name ", floats", whose, floats, FLOATS),                                            \
+    ROW(name ", highest and lowest", whose, highest_lowest, PAIRS)
 #define IN_ORDERS(name, whose)                                                                                  \
     ROW(name ", recording, direct, by frequency", whose, recording_direct_by_frequency, IN_BANDS),              \
     ROW(name ", recording, short route, by frequency", whose, recording_short_by_frequency, NEAR_IN_BANDS),     \
@@ -417,6 +440,9 @@ static struct contender contenders[] = {
     {"plain C, quantise, " options, run_##variant##_quantise, plain_offers, LEVELS, native, {0}, {0}},                \
     {"plain C, dequantise, " options, run_##variant##_dequantise, plain_offers, RESTORED, native, {0}, {0}},          \
     {"plain C, step on levels, " options, run_##variant##_step_levels, plain_offers, RESTORED_SOUND, native, {0}, {0}}
+#define PLAIN_AS_FLOATS(variant, options, native)                                                                     \
+    {"plain C, floats, " options, run_##variant##_floats, plain_offers, FLOATS, native, {0}, {0}},                    \
+    {"plain C, highest and lowest, " options, run_##variant##_highest_lowest, plain_offers, PAIRS, native, {0}, {0}}
 #define PLAIN_IN_SEARCHES(variant, options, native)                                                                           \
     {"plain C, a trial that passes, " options, run_##variant##_passing_trial, plain_offers, PASSED, native, {0}, {0}},        \
     {"plain C, 1 trial that fails, " options, run_##variant##_failing_trial, plain_offers, FAILED, native, {0}, {0}},         \
@@ -454,6 +480,8 @@ static struct contender contenders[] = {
     LIBRARIES(IN_ORDERS),
     {"plain C, largest share, -O3", run_plain_o3_largest_share, plain_offers, MOVERS, 0, {0}, {0}},
     {"plain C, largest share, -O3 -march=native", run_plain_native_largest_share, plain_offers, MOVERS, 1, {0}, {0}},
+    LIBRARIES(AS_FLOATS),
+    VARIANTS(PLAIN_AS_FLOATS),
     LIBRARIES(IN_SEARCHES),
     VARIANTS(PLAIN_IN_SEARCHES),
 };
@@ -478,6 +506,22 @@ static void prepare_levels(int l)
         plain_o3_quantise(n, all_tables[l], table_lengths[l], all_spectra[l] + b * m, level);
         plain_o3_dequantise(n, all_tables[l], table_lengths[l], level, all_restored[l] + b * m);
         plain_o3_step_direct(n, 0, 0, zeros, all_restored[l] + b * m, all_restored_sound[l] + b * m);
+    }
+}
+
+/* Makes the floats of length l, and the pairs of its blocks. */
+static void prepare_floats(int l)
+{
+    size_t m = lengths[l] / 2;
+    for (size_t i = 0; i < batches[l] * m; i++)
+        all_floats[l][i] = ldexp(all_spectra[l][i], -6);
+    for (size_t b = 0; b < batches[l]; b++) {
+        double *block = all_floats[l] + b * m, *pair = all_pairs[l] + 2 * b;
+        pair[0] = pair[1] = block[0];
+        for (size_t k = 1; k < m; k++) {
+            pair[0] = fmax(pair[0], block[k]);
+            pair[1] = fmin(pair[1], block[k]);
+        }
     }
 }
 
@@ -507,6 +551,7 @@ static void prepare(void)
         put_by_frequency(m, batches[l], all_spectra[l], all_by_frequency[l]);
         all_late_clicks[l][batches[l] * m - 1] = CLICK;
         prepare_levels(l);
+        prepare_floats(l);
         for (size_t i = 0; i < n; i++)
             windows[l][i] = (float)sin(3.141592653589793 * (double)(2 * i + 1) / (double)(2 * n));
 #ifdef HAVE_FFTW
@@ -531,6 +576,8 @@ static void turn_to(int l)
     restored = all_restored[l];
     restored_sound = all_restored_sound[l];
     expected_movers = all_movers[l];
+    expected_floats = all_floats[l];
+    expected_pairs = all_pairs[l];
     late_click = all_late_clicks[l];
     window = windows[l];
 #ifdef HAVE_FFTW
@@ -566,6 +613,8 @@ static long off(enum result result, size_t i)
     int16_t **heard = expected[result].sound;
     if (expected[result].movers)
         return labs((long)movers[i] - (long)(*expected[result].movers)[i]);
+    if (expected[result].floats)
+        return memcmp(values + i, *expected[result].floats + i, sizeof values[0]) != 0;
     if (is_search(result))
         return labs((long)found[i] - (long)expected[result].found[i]);
     return labs(heard ? (long)sound[i] - (*heard)[i] : (long)coefficients[i] - (*expected[result].numbers)[i]);
@@ -583,6 +632,7 @@ static void verify(struct contender *c, int l)
     memset(coefficients, 0x55, sizeof coefficients);
     memset(sound, 0x55, sizeof sound);
     memset(movers, 0x55, sizeof movers);
+    memset(values, 0x55, sizeof values);
     memset(found, 0x55, sizeof found);
     refused = 0;
     c->run(n, blocks);
@@ -719,7 +769,7 @@ static void print_ratios_of_analyses(void)
     print_ratio("library, recording, double route", "library, double route");
 }
 
-/* levels and shares beside plain C */
+/* levels, shares and floats beside plain C */
 static void print_ratios_of_blocks(void)
 {
     print_ratio("library, quantise", "plain C, quantise, -O3");
@@ -731,6 +781,10 @@ static void print_ratios_of_blocks(void)
     print_ratio("library, step on levels", "library, step");
     print_ratio("library, largest share", "plain C, largest share, -O3");
     print_ratio("library, largest share", "plain C, largest share, -O3 -march=native");
+    print_ratio("library, floats", "plain C, floats, -O3");
+    print_ratio("library, floats", "plain C, floats, -O3 -march=native");
+    print_ratio("library, highest and lowest", "plain C, highest and lowest, -O3");
+    print_ratio("library, highest and lowest", "plain C, highest and lowest, -O3 -march=native");
 }
 
 static void print_ratios(void)

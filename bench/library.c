@@ -36,6 +36,16 @@
         return refused;                                                                                                   \
     }
 
+/* so many floats for each block */
+#define FLOATS(name, call, count)                                                                                         \
+    static uint32_t name(size_t n, size_t blocks, const int32_t *spectra, double *floats)                                 \
+    {                                                                                                                     \
+        uint32_t refused = 0;                                                                                             \
+        for (size_t b = 0; b < blocks; b++)                                                                               \
+            refused |= call(n, spectra + b * (n / 2), n / 2, floats + b * (count), count);                                \
+        return refused;                                                                                                   \
+    }
+
 /* the orders of a recording's coefficients */
 enum { BY_BLOCK, BY_FREQUENCY };
 
@@ -71,6 +81,8 @@ STEP(step, 0)
 STEP(step_short_joints, 1)
 LEVELS(quantise, dapplescree_quantise)
 LEVELS(dequantise, dapplescree_dequantise)
+FLOATS(floats, dapplescree_floats, n / 2)
+FLOATS(highest_lowest, dapplescree_highest_lowest, 2)
 
 static uint32_t step_levels(size_t n, size_t blocks, const uint8_t *table, size_t table_length, const int32_t *levels, int16_t *sound)
 {
@@ -116,5 +128,5 @@ const struct library library = {
     direct, by_short_route, recording_direct, recording_short, step, synthesis, direct_short_joints, by_short_route_short_joints, step_short_joints,
     quantise, dequantise, step_levels, largest_share, recording_direct_by_frequency, recording_short_by_frequency, synthesis_by_frequency,
     reordered_by_block, reordered_by_frequency, by_double_route, by_double_route_short_joints, recording_double, recording_double_by_frequency,
-    there_and_back, coarsest_step,
+    there_and_back, coarsest_step, floats, highest_lowest,
 };

@@ -40,6 +40,9 @@ struct library {
     uint32_t (*there_and_back)(size_t, size_t, const int16_t *, int32_t *, int16_t *);
     /* n, blocks, a padded recording of blocks - 1 hops, the allowed distance, the budget, and three numbers: the coarsest step, trials, untried */
     uint32_t (*coarsest_step)(size_t, size_t, const int16_t *, uint32_t, size_t, uint32_t *);
+    /* n, blocks, their coefficients, and M floats or a pair for each block */
+    uint32_t (*floats)(size_t, size_t, const int32_t *, double *);
+    uint32_t (*highest_lowest)(size_t, size_t, const int32_t *, double *);
 };
 
 extern const struct library library;

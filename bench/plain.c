@@ -480,3 +480,41 @@ void PLAIN(coarsest_step)(size_t n, size_t hops, const int16_t *padded, uint32_t
 {
     BY_LENGTH(coarsest_step, hops, padded, allowed, budget, found)
 }
+
+/* What refuses a block whose floats should be as many as are due, or 0. The range is tested without an early end, so that it is vectorised. */
+static uint32_t refusal(size_t n, const int32_t *x, size_t x_length, size_t length, size_t due)
+{
+    int beyond = 0;
+    if (n != 12 && n != 24 && n != 36 && n != 72 && n != 108 && n != 216)
+        return 1;
+    if (x_length != n / 2 || length != due)
+        return 2;
+    for (size_t k = 0; k < n / 2; k++)
+        beyond |= (x[k] < -536870912) | (x[k] > 536870912);
+    return beyond ? 3 : 0;
+}
+
+uint32_t PLAIN(floats)(size_t n, const int32_t *x, size_t x_length, double *floats, size_t floats_length)
+{
+    uint32_t refused = refusal(n, x, x_length, floats_length, n / 2);
+    if (refused)
+        return refused;
+    for (size_t k = 0; k < n / 2; k++)
+        floats[k] = x[k] / 64.0;
+    return 0;
+}
+
+uint32_t PLAIN(highest_lowest)(size_t n, const int32_t *x, size_t x_length, double *pair, size_t pair_length)
+{
+    uint32_t refused = refusal(n, x, x_length, pair_length, 2);
+    if (refused)
+        return refused;
+    int32_t highest = x[0], lowest = x[0];
+    for (size_t k = 1; k < n / 2; k++) {
+        highest = x[k] > highest ? x[k] : highest;
+        lowest = x[k] < lowest ? x[k] : lowest;
+    }
+    pair[0] = highest / 64.0;
+    pair[1] = lowest / 64.0;
+    return 0;
+}

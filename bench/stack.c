@@ -17,6 +17,7 @@ static const int32_t silence[BLOCKS * MOST_M];
 static int64_t state[DAPPLESCREE_STATE];
 static uint8_t page[DAPPLESCREE_PAGE(MOST_N, HOPS)], table[TABLE_ROOM];
 static uint32_t distance[1], named[3], found[3];
+static double values[MOST_M], pair[2];
 
 static size_t n, m, table_length;
 static uint32_t left, right, order;
@@ -131,6 +132,16 @@ static uint32_t coarsest_step(void)
     return dapplescree_coarsest_step(n, HOPS, samples, HOPS * m, 31, 1, found, 3);
 }
 
+static uint32_t floats(void)
+{
+    return dapplescree_floats(n, spectra, m, values, m);
+}
+
+static uint32_t highest_lowest(void)
+{
+    return dapplescree_highest_lowest(n, spectra, m, pair, 2);
+}
+
 static const struct call {
     const char *name;
     uint32_t (*run)(void);
@@ -156,6 +167,8 @@ static const struct call {
     {"largest share", largest_share, 0},
     IN_ORDERS("largest share, recording", largest_share_recording),
     {"coarsest step", coarsest_step, 0},
+    {"floats", floats, 0},
+    {"highest and lowest", highest_lowest, 0},
 };
 
 enum { CALLS = sizeof calls / sizeof calls[0] };

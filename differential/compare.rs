@@ -1,5 +1,6 @@
 //! The library held against the reference, call by call.
 mod coarsest;
+mod floats;
 mod orders;
 mod shares;
 mod steps;
@@ -824,6 +825,7 @@ pub fn run(bank: Bank, seed: u64) -> u64 {
         compare.shares(n);
         compare.orders(n);
         compare.coarsest(n);
+        compare.floats(n);
     }
     compare.calls
 }

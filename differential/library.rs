@@ -141,6 +141,8 @@ extern "C" {
         found: *mut u32,
         found_length: usize,
     ) -> u32;
+    fn dapplescree_floats(n: usize, coefficients: *const i32, coefficients_length: usize, floats: *mut f64, floats_length: usize) -> u32;
+    fn dapplescree_highest_lowest(n: usize, coefficients: *const i32, coefficients_length: usize, pair: *mut f64, pair_length: usize) -> u32;
 }
 
 // Each pointer and length below come from one slice, and slices lent by & and &mut do not overlap.
@@ -216,4 +218,14 @@ pub fn largest_share_recording(recording: Recording, [original, changed]: [&[i32
 
 pub fn coarsest_step(n: usize, hops: usize, x: &[i16], allowed: u32, budget: usize, found: &mut [u32]) -> u32 {
     unsafe { dapplescree_coarsest_step(n, hops, x.as_ptr(), x.len(), allowed, budget, found.as_mut_ptr(), found.len()) }
+}
+
+// Floats are lent as their patterns, which have the size and the alignment of floats: so they are compared bit by bit.
+
+pub fn floats(n: usize, x: &[i32], out: &mut [u64]) -> u32 {
+    unsafe { dapplescree_floats(n, x.as_ptr(), x.len(), out.as_mut_ptr().cast(), out.len()) }
+}
+
+pub fn highest_lowest(n: usize, x: &[i32], out: &mut [u64]) -> u32 {
+    unsafe { dapplescree_highest_lowest(n, x.as_ptr(), x.len(), out.as_mut_ptr().cast(), out.len()) }
 }

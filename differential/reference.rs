@@ -1,4 +1,4 @@
-//! Document 01, with P1, P2, P4 to P10, P12 and P13 of document 02, written out anew: exact series, naive sums, rounding by size. It shares no table with any other file.
+//! Document 01, with P1, P2, P4 to P10 and P12 to P14 of document 02, written out anew: exact series, naive sums, rounding by size. It shares no table with any other file.
 
 /// A natural number of any size, in base 2^64, lowest digit first.
 #[derive(Clone)]
@@ -642,6 +642,26 @@ impl Bank {
         0
     }
 
+    /// The coefficients of a block as the patterns of floats.
+    pub fn floats(&self, n: usize, x: &[i32], out: &mut [u64]) -> u32 {
+        let refused = block_refusal(n, x, out.len() == n / 2);
+        if refused == 0 {
+            out.copy_from_slice(&x.iter().map(|&c| pattern(c)).collect::<Vec<_>>());
+        }
+        refused
+    }
+
+    /// The patterns of its highest and its lowest value.
+    pub fn highest_lowest(&self, n: usize, x: &[i32], out: &mut [u64]) -> u32 {
+        let refused = block_refusal(n, x, out.len() == 2);
+        if refused == 0 {
+            let mut ascending = x.to_vec();
+            ascending.sort_unstable();
+            out.copy_from_slice(&[ascending[ascending.len() - 1], ascending[0]].map(pattern));
+        }
+        refused
+    }
+
     pub fn page(&self, recording: Recording, x: &[i32], out: &mut [u8]) -> u32 {
         let Recording { n, hops, .. } = recording;
         if !tabled(n) {
@@ -772,6 +792,29 @@ pub fn search(allowed: u32, budget: usize, passes: impl Fn(u32) -> bool) -> [u32
         }
     }
     [sure(allowed), trials, 0]
+}
+
+/// The pattern of the float equal to c/64: its sign, its exponent counted from -1023 on, and the 52 bits behind its leading one. 0 has none.
+pub fn pattern(c: i32) -> u64 {
+    let size = u64::from(c.unsigned_abs());
+    let Some(top) = size.checked_ilog2() else {
+        return 0;
+    };
+    let exponent = 1023 - 6 + u64::from(top);
+    u64::from(c < 0) << 63 | exponent << 52 | (size - (1 << top)) << (52 - top)
+}
+
+/// The number of a call on the coefficients of one block, if the length of its output is as it should be.
+fn block_refusal(n: usize, x: &[i32], length_kept: bool) -> u32 {
+    if !tabled(n) {
+        1
+    } else if x.len() != n / 2 || !length_kept {
+        2
+    } else if beyond(x) {
+        3
+    } else {
+        0
+    }
 }
 
 /// A line of 80 columns and a line feed for every six coefficients.

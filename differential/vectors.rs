@@ -63,7 +63,7 @@ fn holds(bank: &Bank, line: &str) -> bool {
             let shapes = (number(left), number(right));
             agrees(length, code, out, |b| bank.stream_step(&mut now, number(block), shapes, &list(x), b)) && now == after(after_state, &before)
         }
-        _ => recording_holds(bank, &fields) || steps_hold(bank, &fields) || share_holds(bank, &fields),
+        _ => recording_holds(bank, &fields) || steps_hold(bank, &fields) || share_holds(bank, &fields) || floats_hold(bank, &fields),
     }
 }
 
@@ -106,6 +106,15 @@ fn steps_hold(bank: &Bank, fields: &[&str]) -> bool {
         ["told_distance", n, r, table, length, code, out] => {
             agrees(length, code, out, |b| bank.told_distance(number(n), number(r), &list(table), b))
         }
+        _ => false,
+    }
+}
+
+/// The same of the calls that give floats, which stand as their patterns.
+fn floats_hold(bank: &Bank, fields: &[&str]) -> bool {
+    match *fields {
+        ["floats", n, x, length, code, out] => agrees(length, code, out, |b| bank.floats(number(n), &list(x), b)),
+        ["highest_lowest", n, x, length, code, out] => agrees(length, code, out, |b| bank.highest_lowest(number(n), &list(x), b)),
         _ => false,
     }
 }

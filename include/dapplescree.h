@@ -2,11 +2,11 @@
  *
  * Link target/staticlib/libc_face.a (`rt staticlib c_face`). N is the block length: 12, 24, 36, 72, 108 or 216, the tabled lengths. M = N/2 is
  * a hop. Direct analysis and synthesis are offered at every tabled length, the short route at 12, 24, 36 and 72, the double route, which splits
- * by three and again (document 02, P12), at 36 and 72. A sample is an int16_t. A coefficient is an int32_t counted in units of 1/64. y, S, X, U,
- * V, rnd, C and K below are those of document 01, with the turn cut in 864 parts and an exact half going away from zero (document 02, P4 and
- * P5): sound without -32,768 has, with its sign turned, the same coefficients with their signs turned. A recording has one hop of zeros put
- * before it and one after it: of H hops it has H + 1 blocks, and block b, b from 0 to H, covers its hops b - 1 and b, those outside it being
- * zeros.
+ * by three and again (document 02, P12), at 36 and 72. A sample is an int16_t. A coefficient is an int32_t counted in units of 1/64. A float is a
+ * double, the 64-bit one of IEEE 754. y, S, X, U, V, rnd, C and K below are those of document 01, with the turn cut in 864 parts and an exact half
+ * going away from zero (document 02, P4 and P5): sound without -32,768 has, with its sign turned, the same coefficients with their signs turned. A
+ * recording has one hop of zeros put before it and one after it: of H hops it has H + 1 blocks, and block b, b from 0 to H, covers its hops b - 1
+ * and b, those outside it being zeros.
  *
  * The coefficients of a recording lie in one of two orders, B = H + 1 being its blocks. An order is a number:
  *
@@ -76,8 +76,9 @@
  * size is without a sign: a negative number handed in for one arrives as a huge size, and is refused as such, but for a budget, of which every size is
  * taken. A block's number, a shape, a route, an order and an allowed distance have 32 bits: of a wider one its low 32 bits arrive. The numbers
  * returned, and what each buffer then holds, are the contracts of crates/c_face/src/lib.rt, which are proved; what is said of chains of states, of
- * levels there and back, of the distance of returned sound, of reading a page, of shares, of either order and of the coarsest step are theorems
- * of crates/demands over the same definitions.
+ * levels there and back, of the distance of returned sound, of reading a page, of shares, of either order, of the coarsest step and of floats are
+ * theorems of crates/demands over the same definitions. Of a NaN that a room for floats held it is proved that a refused call leaves a NaN there; that
+ * its bits stay is measured (differential/run).
  */
 #ifndef DAPPLESCREE_H
 #define DAPPLESCREE_H
@@ -342,6 +343,26 @@ uint32_t dapplescree_largest_share_recording(size_t n, size_t hops, uint32_t ord
  */
 uint32_t dapplescree_coarsest_step(size_t n, size_t hops, const int16_t *samples, size_t samples_length, uint32_t allowed, size_t budget,
     uint32_t *found, size_t found_length);
+
+/* The coefficients of one block as floats.
+ *   1  n is not tabled
+ *   2  coefficients_length is not M, or floats_length is not M
+ *   3  a coefficient is beyond its limit
+ *   0  floats[k] is exactly coefficients[k] / 64, its fraction included, k below M
+ * Nothing is rounded: a coefficient has at most 30 bits, and a float holds 53. The float of 0 is +0.0.
+ */
+uint32_t dapplescree_floats(size_t n, const int32_t *coefficients, size_t coefficients_length, double *floats, size_t floats_length);
+
+/* The highest and the lowest value of one block as floats. pair is an array of two entries.
+ *   1  n is not tabled
+ *   2  coefficients_length is not M, or pair_length is not 2
+ *   3  a coefficient is beyond its limit
+ *   0  pair[0] is exactly h / 64 and pair[1] exactly l / 64, their fractions included, where h is the highest of the coefficients and l the lowest,
+ *      as whole numbers with their signs
+ * Both values occur in the block, and no coefficient lies outside them: of the floats that dapplescree_floats gives for it one is pair[0] and one
+ * is pair[1], and no coefficient is above h or below l.
+ */
+uint32_t dapplescree_highest_lowest(size_t n, const int32_t *coefficients, size_t coefficients_length, double *pair, size_t pair_length);
 
 #ifdef __cplusplus
 }

@@ -1,5 +1,5 @@
 """Document 01, with P1, P2, P4 to P7, P10 and P12 of document 02, in exact whole numbers, as plainly as they are written: with steps.py, which has P8, shares.py,
-which has P9, and coarsest.py, which has P13, the source of every stored output. It shares no table, folding or rounding with the crates."""
+which has P9, coarsest.py, which has P13, and floats.py, which has P14, the source of every stored output. It shares no table, folding or rounding with the crates."""
 from fractions import Fraction
 from functools import cache
 from math import factorial, floor

@@ -6,6 +6,7 @@ from itertools import product
 
 import bank
 import coarsest
+import floats
 import shares
 import steps
 from bank import COEFFICIENT_LIMIT, HOPS, LENGTHS, ORDERS, ROUTES, SHAPES, SHORT_LENGTHS, STATE, STORAGE, page_length, tail_limit
@@ -198,6 +199,15 @@ def many(H, M):
     return spoil(x) if rng.randrange(6) == 0 else x
 
 
+def as_floats(N, n):
+    """Prints the calls that give floats, as their patterns."""
+    for call, room in ((floats.floats, N // 2), (floats.highest_lowest, 2)):
+        x, length = coefficients(near(N // 2)), near(room)
+        if rng.randrange(6) == 0:
+            spoil(x)
+        line(call.__name__, n, x, length, *call(n, x, length))
+
+
 def recorded(N, n):
     """Prints the calls over recordings."""
     M = N // 2
@@ -290,6 +300,7 @@ for _ in range(rounds):
             stepped_levels(stepped_levels(state(N), M), M)
             shared(N, n)
             shared_recording(N, n)
+            as_floats(N, n)
 
 # a search is up to a thousand trials
 quicken()

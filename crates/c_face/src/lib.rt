@@ -10,6 +10,7 @@ ghost use Rattle.level_calls.specs.LevelCalls.{quantiseCode, quantiseOut, dequa
 ghost use Rattle.share_calls.specs.ShareCalls.{nameCode, nameOut};
 ghost use Rattle.share_calls.specs.RecordingShares.{recordingNameCode, recordingNameOut};
 ghost use Rattle.coarsest_calls.specs.CoarsestCalls.{findCode, findOut};
+ghost use Rattle.float_calls.specs.FloatCalls.{floatsCode, floatsOut, pairCode, pairOut};
 ghost use Rattle.state_calls.specs.States.{freshCode, freshState, stepCode, stepState, stepOut};
 use analysis::Route;
 
@@ -307,4 +308,26 @@ pub extern "C" fn dapplescree_coarsest_step(
     ensures { λ _. ⌜ now (found .exit) ≡ findOut n hops (now (samples .entry)) allowed budget (now (found .entry)) ⌝ }
 {
     filter_bank::find_step(n, hops, samples, allowed, budget, found)
+}
+
+// The coefficients of a block as floats: `filter_bank::floats`.
+#[no_mangle]
+pub extern "C" fn dapplescree_floats(n: usize, coefficients: &[i32], floats: &mut [f64]) -> u32
+    ensures { λ r. ⌜ r ≡ floatsCode n (now (coefficients .entry)) (now (floats .entry)) ⌝ }
+    ensures { λ _. ⌜ now (floats .exit) ≡ floatsOut n (now (coefficients .entry)) (now (floats .entry)) ⌝ }
+{
+    filter_bank::floats(n, coefficients, floats)
+}
+
+// The highest and the lowest coefficient of a block: `filter_bank::put_ends`.
+#[no_mangle]
+pub extern "C" fn dapplescree_highest_lowest(
+    n: usize,
+    coefficients: &[i32],
+    pair: &mut [f64],
+) -> u32
+    ensures { λ r. ⌜ r ≡ pairCode n (now (coefficients .entry)) (now (pair .entry)) ⌝ }
+    ensures { λ _. ⌜ now (pair .exit) ≡ pairOut n (now (coefficients .entry)) (now (pair .entry)) ⌝ }
+{
+    filter_bank::put_ends(n, coefficients, pair)
 }

@@ -37,6 +37,7 @@ use Rattle.demands.specs.TableAnswerLaws.{table-answers}
 use Rattle.demands.specs.LevelAnswerLaws.{quantise-answers, dequantise-answers, told-answers, tell-answers, report-answers, step-levels-answers, state-levels-answers, last-number}
 use Rattle.demands.specs.ShareLaws.{share-answers, name-answers}
 use Rattle.demands.specs.OrderAnswerLaws.{reorder-answers, number-answers, recording-share-answers, recording-name-answers}
+use Rattle.demands.specs.FloatAnswerLaws.{floats-answers, ends-answers, pair-answers}
 use Rattle.demands.specs.CoarseAnswerLaws.{coarsest-answers, find-answers, found-report-answers}
 use Rattle.demands.specs.StepLaws.{code-other, refused-stream, refused-buffer}
 use Rattle.demands.specs.CauseTestLaws.{counts, counts-not, ranges, ranges-not, sounds, sounds-not-n, sounds-not-tail, shapes-true, shapes-false, fits-true, fits-not, fits-other, fits-forged, negative, no-length-0, shape-negative, shape-large}
@@ -249,4 +250,7 @@ demand-1 = record {
   searched = coarsest-answers;
   searched-in = find-answers;
   searched-report = found-report-answers;
+  floated = floats-answers;
+  paired = ends-answers;
+  paired-in = pair-answers;
 }

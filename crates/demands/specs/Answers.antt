@@ -8,6 +8,7 @@ use lib.Dec.{T}
 use lib.ListN.{length, getD}
 use lib.IntN.{ℤ, pos, natAbs}
 use lib.Signed.{_<ℤ_}
+use lib.Ieee.{Float}
 use Rattle.arithmetic.specs.Lists.{at}
 use Rattle.cosine.specs.Kernels.{tabled}
 use Rattle.stream.specs.declared.Stream.{Stream}
@@ -36,6 +37,7 @@ use Rattle.coarsest.specs.Coarsest.{coarsest as coarsestStep}
 use Rattle.coarsest_calls.specs.CoarsestCalls as Calls
 use Rattle.coarsest_calls.specs.CoarsestCalls.{coarsestAnswer, findCode, findOut}
 use Rattle.coarsest_report.specs.Report as Reports
+use Rattle.float_calls.specs.FloatCalls.{floatsCode, floatsOut, pairOf, noPair, endsOf, pairCode, pairOut}
 use Rattle.text.specs.Number.{mostDigits, isNumber, value}
 use Rattle.text.specs.Lines.{lines, remainder}
 use Rattle.page.specs.Page.{pageCode, pageOut}
@@ -431,3 +433,30 @@ pub record FoundReportAnswers (distance budget text : List ℕ) : Type 0 where
   -- bytes that are no budget stand for none: the command asks `is_budget` before it prints anything
   pub no-budget : (N : ℕ) (hops : List (List ℕ)) → Listed text N hops → Counted (length hops) → (D : ℕ) → D ≤ 32 → Whole digits distance D → ((b : ℕ) → ¬ Whole mostDigits budget b) →
       let r = coarsestStep N (length hops) (recording (hopsOf text)) D 0 in Reports.reportOf distance budget text ≡ Reports.foundLines (r .step) (r .trials) (r .untried)
+
+-- ---- floats (P14)
+-- `floats`
+pub record FloatsAnswers (N : ℕ) (x : List ℤ) (out : List Float) : Type 0 where
+  pub one : ¬ Tabled N → floatsCode N x out ≡ 1
+  pub two-in : Tabled N → length x ≢ N / 2 → floatsCode N x out ≡ 2
+  pub two-out : Tabled N → length out ≢ N / 2 → floatsCode N x out ≡ 2
+  pub three : Tabled N → length x ≡ N / 2 → length out ≡ N / 2 → ¬ InRange x → floatsCode N x out ≡ 3
+  pub taken : Tabled N → length x ≡ N / 2 → length out ≡ N / 2 → InRange x → floatsCode N x out ≡ 0
+  pub kept : floatsCode N x out ≢ 0 → floatsOut N x out ≡ out
+
+-- `highest_lowest`: both are +0.0 beside a refusal
+pub record EndsAnswers (N : ℕ) (x : List ℤ) : Type 0 where
+  pub one : ¬ Tabled N → endsOf N x ≡ record { code = 1; pair = noPair }
+  pub two : Tabled N → length x ≢ N / 2 → endsOf N x ≡ record { code = 2; pair = noPair }
+  pub three : Tabled N → length x ≡ N / 2 → ¬ InRange x → endsOf N x ≡ record { code = 3; pair = noPair }
+  pub taken : Tabled N → length x ≡ N / 2 → InRange x → endsOf N x ≡ record { code = 0; pair = pairOf x }
+
+-- `put_ends`, and the call for C: the same into room for two floats, another length of it being 2, before 3
+pub record PairAnswers (N : ℕ) (x : List ℤ) (pair : List Float) : Type 0 where
+  pub one : ¬ Tabled N → pairCode N x pair ≡ 1
+  pub two : Tabled N → length x ≢ N / 2 → pairCode N x pair ≡ 2
+  pub two-room : Tabled N → length pair ≢ 2 → pairCode N x pair ≡ 2
+  pub three : Tabled N → length x ≡ N / 2 → length pair ≡ 2 → ¬ InRange x → pairCode N x pair ≡ 3
+  pub taken : Tabled N → length x ≡ N / 2 → length pair ≡ 2 → InRange x → pairCode N x pair ≡ 0
+  pub both : pairCode N x pair ≡ 0 → let a = endsOf N x in (a .code ≡ 0) × (pairOut N x pair ≡ a .pair .highest ∷ a .pair .lowest ∷ [])
+  pub kept : pairCode N x pair ≢ 0 → pairOut N x pair ≡ pair

@@ -1,9 +1,9 @@
--- The three demands, proved: `demand-1`, `demand-2` and `demand-3` are the records of Demands, `either-order` is that of orders, `levels-kept` is that of levels, `sparse-kept` that of sparse changes, `coarsest-found` that of the coarsest step, and `beyond` what is proved beyond the third.
+-- The three demands, proved: `demand-1`, `demand-2` and `demand-3` are the records of Demands, `either-order` is that of orders, `levels-kept` is that of levels, `sparse-kept` that of sparse changes, `coarsest-found` that of the coarsest step, `floats-exact` that of floats, and `beyond` what is proved beyond the third.
 use Prim.Native.Nat.{_+_, _*_}
 use Rattle.analysis.specs.declared.Route.the-variants.{Direct}
 use Rattle.step_search.specs.Search.{sure}
 use Rattle.recording_calls.specs.Recordings.{playedOut}
-use Rattle.demands.specs.Demands.{Demand-1, Demand-2, Either-order, OneQ, Demand-3, Levels-kept, Sparse-kept, Coarsest-found, Beyond}
+use Rattle.demands.specs.Demands.{Demand-1, Demand-2, Either-order, OneQ, Demand-3, Levels-kept, Sparse-kept, Coarsest-found, Floats-exact, Beyond}
 use Rattle.demands.specs.RecordingLaws.{proved-one}
 use Rattle.demands.specs.AnswerLaws as Answers
 use Rattle.demands.specs.DefinitionLaws as Definitions
@@ -16,6 +16,7 @@ use Rattle.demands.specs.StoredListLaws as StoredLists
 use Rattle.demands.specs.SparseLaws as Sparse
 use Rattle.demands.specs.CoarseLaws as Coarse
 use Rattle.demands.specs.CoarseTableLaws as CoarseTables
+use Rattle.demands.specs.FloatValueLaws as Floats
 use Rattle.demands.specs.BackLaws.{back-one, back-by-one-call, back-block-by-block}
 
 pub demand-1 : Demand-1
@@ -85,6 +86,9 @@ coarsest-found = record {
   at-31 = Coarse.answer-31;
   at-0 = Coarse.answer-0;
 }
+
+pub floats-exact : Floats-exact
+floats-exact = record { exactly = Floats.exactly; floats = Floats.floats-on; ends = Floats.ends-on }
 
 pub beyond : Beyond
 beyond = record {

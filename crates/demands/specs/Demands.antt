@@ -1,5 +1,5 @@
 -- THE THREE DEMANDS, for every signal, over the definitions that the contracts of the public calls cite (specs/ of block_calls, stream_calls,
--- state_calls, recording_calls, level_calls, share_calls, coarsest_calls, page, listing and, for an order's number, orders). Each record below is one demand or a part of it; the theorems `demand-1`, `demand-2`, `either-order`, `demand-3`, `levels-kept`, `sparse-kept`, `coarsest-found` and `beyond` of DemandLaws prove them.
+-- state_calls, recording_calls, level_calls, share_calls, coarsest_calls, float_calls, page, listing and, for an order's number, orders). Each record below is one demand or a part of it; the theorems `demand-1`, `demand-2`, `either-order`, `demand-3`, `levels-kept`, `sparse-kept`, `coarsest-found`, `floats-exact` and `beyond` of DemandLaws prove them.
 --
 -- What the contracts add: a call ends on any numbers and any buffer lengths and never overflows, and what it returns and leaves is what these
 -- definitions say. A check of the public calls' crates proves that of the code.
@@ -10,6 +10,7 @@ use Prim.Native.Nat.{ℕ, suc, _+_, _-_, _*_, _/_, _^_, _≤_, _<_, max}
 use lib.Dec.{T, ltb}
 use lib.ListN.{length, take, drop, getD, replicate}
 use lib.IntN.{ℤ, pos, natAbs, _+ℤ_, _-ℤ_, _*ℤ_}
+use lib.Ieee.{Float}
 use Rattle.arithmetic.specs.Rounding.{rnd, clamp, Sample}
 use Rattle.arithmetic.specs.Sums.{sum}
 use Rattle.arithmetic.specs.Lists.{at}
@@ -35,6 +36,8 @@ use Rattle.shares.specs.Shares.{earlier, later, shareIn, Before}
 use Rattle.coarsest.specs.Coarsest.{stepped, passes}
 use Rattle.coarsest_calls.specs.CoarsestCalls.{coarsestAnswer}
 use Rattle.step_search.specs.Search.{sure}
+use Rattle.floats.specs.Floats.{sixtyFourth}
+use Rattle.float_calls.specs.FloatCalls.{floatsCode, endsOf}
 use Rattle.share_calls.specs.declared.Share.{Share}
 use Rattle.share_calls.specs.ShareCalls.{shareAnswer}
 use Rattle.share_calls.specs.RecordingShares.{recordingShare, recordingNameCode, recordingNameOut}
@@ -50,9 +53,10 @@ use Rattle.demands.specs.StoredLists.{LoadOffer, loadTurns, loadFinal, l
 use Rattle.demands.specs.Recordings.{ByOneCall, BlockByBlock, Back, BackOneQ, SharperBack, offering, outputs}
 use Rattle.demands.specs.Sparse.{SparseNumbered, SparseOnce, SparseBlocks, sparseDistance, SparselyReturned, SparselyBack}
 use Rattle.demands.specs.Coarse.{Keeps, Fails, Found-on}
-use Rattle.demands.specs.Answers.{Tabled, Counted, InRange, AnalyseAnswers, FreshAnswers, StepAnswers, StateFreshAnswers, StateStepAnswers, RecordedAnswers, PlayedAnswers, ReorderAnswers, NumberAnswers, InnerAnswers, PageAnswers, Ruled, TableAnswers, ShareAnswers, NameAnswers, RecordingShareAnswers, RecordingNameAnswers, QuantiseAnswers, DequantiseAnswers, ToldAnswers, TellAnswers, StepLevelsAnswers, StateStepLevelsAnswers, ReportAnswers, ListingAnswers, CoarsestAnswers, FindAnswers, FoundReportAnswers}
+use Rattle.demands.specs.FloatValues.{Exactly, Floats-on, Ends-on}
+use Rattle.demands.specs.Answers.{Tabled, Counted, InRange, AnalyseAnswers, FreshAnswers, StepAnswers, StateFreshAnswers, StateStepAnswers, RecordedAnswers, PlayedAnswers, ReorderAnswers, NumberAnswers, InnerAnswers, PageAnswers, Ruled, TableAnswers, ShareAnswers, NameAnswers, RecordingShareAnswers, RecordingNameAnswers, QuantiseAnswers, DequantiseAnswers, ToldAnswers, TellAnswers, StepLevelsAnswers, StateStepLevelsAnswers, ReportAnswers, ListingAnswers, CoarsestAnswers, FindAnswers, FoundReportAnswers, FloatsAnswers, EndsAnswers, PairAnswers}
 
--- ================ DEMAND 1: the whole work, or the numbered refusal of document 01, for recordings, pages, numbered blocks, joints, step tables, shares, orders and the coarsest step as document 02, P1, P2, P6, P7, P8, P9, P10 and P13, has it, at P4's six lengths, the short route at four, the double route at two (P12), with stream and buffers as they were
+-- ================ DEMAND 1: the whole work, or the numbered refusal of document 01, for recordings, pages, numbered blocks, joints, step tables, shares, orders, the coarsest step and floats as document 02, P1, P2, P6, P7, P8, P9, P10, P13 and P14, has it, at P4's six lengths, the short route at four, the double route at two (P12), with stream and buffers as they were
 -- each call's record is in Answers: its number by the causes, and what a refusal leaves
 pub record Demand-1 : Type 0 where
   pub analyse : (route : Route) (N left right : ℕ) (x out : List ℤ) → AnalyseAnswers route N left right x out
@@ -83,6 +87,9 @@ pub record Demand-1 : Type 0 where
   pub searched : (N H : ℕ) (x : List ℤ) (D budget : ℕ) → CoarsestAnswers N H x D budget
   pub searched-in : (N H : ℕ) (x : List ℤ) (D budget : ℕ) (room : List ℕ) → FindAnswers N H x D budget room
   pub searched-report : (distance budget text : List ℕ) → FoundReportAnswers distance budget text
+  pub floated : (N : ℕ) (x : List ℤ) (out : List Float) → FloatsAnswers N x out
+  pub paired : (N : ℕ) (x : List ℤ) → EndsAnswers N x
+  pub paired-in : (N : ℕ) (x : List ℤ) (pair : List Float) → PairAnswers N x pair
   pub stepped-levels : (s : Stream) (number left right : ℕ) (text : List ℕ) (levels out : List ℤ) → StepLevelsAnswers s number left right text levels out
   pub state-stepped-levels : (state : List ℤ) (number left right : ℕ) (text : List ℕ) (levels out : List ℤ) → StateStepLevelsAnswers state number left right text levels out
 
@@ -358,6 +365,15 @@ pub record Coarsest-found : Type 0 where
   pub at-32 : (N H : ℕ) (x : List ℤ) (budget : ℕ) → coarsestAnswer N H x 32 budget .code ≡ 0 → coarsestAnswer N H x 32 budget ≡ record { code = 0; step = 1024; trials = 0; untried = 0 }
   pub at-31 : (N H : ℕ) (x : List ℤ) → coarsestAnswer N H x 31 0 .code ≡ 0 → coarsestAnswer N H x 31 0 ≡ record { code = 0; step = 1007; trials = 0; untried = 17 }
   pub at-0 : (N H : ℕ) (x : List ℤ) → coarsestAnswer N H x 0 0 .code ≡ 0 → coarsestAnswer N H x 0 0 ≡ record { code = 0; step = 15; trials = 0; untried = 1009 }
+
+-- ================ FLOATS (P14): each is X/64 exactly; the highest and the lowest value occur in the block, and no coefficient lies outside them
+pub record Floats-exact : Type 0 where
+  -- for whatever 32 bits hold
+  pub exactly : (X : ℤ) → natAbs X ≤ 2 ^ 31 → Exactly (sixtyFourth X) X
+  -- what `floats` left, returning 0
+  pub floats : (N : ℕ) (x : List ℤ) (out : List Float) → floatsCode N x out ≡ 0 → Floats-on N x out
+  -- and what `highest_lowest` answered
+  pub ends : (N : ℕ) (x : List ℤ) → endsOf N x .code ≡ 0 → Ends-on N x (endsOf N x)
 
 -- ================ BEYOND DEMAND 3: each sample within (3 Q + 36) / 64, equal where both its blocks have a Q up to 9, with Q + 7 for Q after the short route and Q + 14 after the double one
 pub record Beyond : Type 0 where

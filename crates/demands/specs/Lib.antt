@@ -12,6 +12,7 @@ pub mod BackLaws
 pub mod Sparse
 pub mod SparseLaws
 pub mod Coarse
+pub mod FloatValues
 pub mod Answers
 pub mod Demands
 pub mod OrderLaws
@@ -27,6 +28,7 @@ pub mod LevelAnswerLaws
 pub mod ShareLaws
 pub mod OrderAnswerLaws
 pub mod CoarseAnswerLaws
+pub mod FloatAnswerLaws
 pub mod LoadLaws
 pub mod StoredListLaws
 pub mod AnswerLaws
@@ -35,6 +37,7 @@ pub mod DefinitionLaws
 pub mod DemandLaws
 pub mod UnchangedLaws
 pub mod CoarseLaws
+pub mod FloatValueLaws
 pub mod CoarseTableLaws
 pub mod Turned
 pub mod TurnLaws
@@ -46,4 +49,5 @@ pub mod LevelExampleLaws
 pub mod ShareExampleLaws
 pub mod OrderExampleLaws
 pub mod CoarseExampleLaws
+pub mod FloatExampleLaws
 pub mod ListingLaws

@@ -1,9 +1,14 @@
-// The public calls of the bank, by family: one block, step tables and levels, shares, streams as values and in states, whole recordings, the coarsest step for one. What each promises stands with it.
+// The public calls of the bank, by family: one block, step tables and levels, shares, streams as values and in states, whole recordings, the coarsest step for one, coefficients as floats. What each promises stands with it.
 pub use analysis::Route;
 pub use block_calls::analyse;
 pub use coarsest_calls::Coarsest;
 pub use coarsest_calls::coarsest_step;
 pub use coarsest_calls::find_step;
+pub use float_calls::Ends;
+pub use float_calls::Pair;
+pub use float_calls::floats;
+pub use float_calls::highest_lowest;
+pub use float_calls::put_ends;
 pub use level_calls::Told;
 pub use level_calls::dequantise;
 pub use level_calls::quantise;

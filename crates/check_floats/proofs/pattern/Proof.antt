@@ -1,0 +1,26 @@
+-- `pattern` is safe: a float that does not differ from itself is no NaN.
+use mathlib.Core.Path.{_≡_}
+use mathlib.Core.Bool.{false, not, true≢false}
+use lib.Dec.{T}
+use lib.Ieee.{Float, nan, inf, fin, isNan, ne}
+use borrow.Author.Needs.{needs}
+use Rattle.check_floats.proofs.pattern.Statement.{statement}
+use Rattle.check_floats.proofs.pattern.Tie as tie
+
+equals-itself : (x : Float) → ne x x ≡ false → T (not (isNan x))
+unfolding ne isNan
+equals-itself nan h = absurd (true≢false h)
+equals-itself (inf s) h = tt
+equals-itself (fin s m e) h = tt
+
+float-to-bits-result : tie.Need-float-to-bits-result
+float-to-bits-result c = equals-itself (c .before .args .x) (c .if1 .left)
+
+returns : tie.Need-returns
+returns c = search needs
+
+returns-2 : tie.Need-returns-2
+returns-2 c = search needs
+
+pub pattern-spec : {M : Type 1} → statement M
+pattern-spec = tie.close (tie.spec float-to-bits-result returns returns-2)

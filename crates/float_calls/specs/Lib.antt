@@ -1,0 +1,2 @@
+pub mod FloatCalls
+pub mod FloatCallLaws
