@@ -86,13 +86,22 @@ filled-three f k out out₀ u v w so less eu ev ew =
     (filled-more f (3 * k + 2) (set (set out (3 * k) u) (3 * k + 1) v) out₀ w (rw next at second)
     (omega (arith, length-set out (3 * k) u, length-set (set out (3 * k) u) (3 * k + 1) v)) ew)
 
--- a list of three, written entry by entry
-pub three : {A : Type 0} (xs : List A) (a b c : A) → length xs ≡ 3 → set (set (set xs 0 a) 1 b) 2 c ≡ a ∷ b ∷ c ∷ []
-three [] a b c e = absurd (omega (arith, e))
-three (x ∷ []) a b c e = absurd (omega (arith, e))
-three (x ∷ y ∷ []) a b c e = absurd (omega (arith, e))
-three (x ∷ y ∷ z ∷ []) a b c e = cc
-three (x ∷ y ∷ z ∷ w ∷ xs) a b c e = absurd (omega (arith, e))
+-- ---- values stored one after the other, from place k on
+abbrev pub stored : {A : Type 0} → List A → ℕ → List A → List A
+stored xs k [] = xs
+stored xs k (v ∷ vs) = stored (set xs k v) (suc k) vs
+
+-- the entry in front of them stays
+stored-behind : {A : Type 0} (x : A) (xs : List A) (k : ℕ) (vs : List A) → stored (x ∷ xs) (suc k) vs ≡ x ∷ stored xs k vs
+stored-behind x xs k [] = refl
+stored-behind x xs k (v ∷ vs) = stored-behind x (set xs k v) (suc k) vs
+
+-- as many as there are entries: the list is theirs
+pub stored-all : {A : Type 0} (xs vs : List A) → length xs ≡ length vs → stored xs 0 vs ≡ vs
+stored-all [] [] e = refl
+stored-all [] (v ∷ vs) e = absurd (omega (arith, e))
+stored-all (x ∷ xs) [] e = absurd (omega (arith, e))
+stored-all (x ∷ xs) (v ∷ vs) e = stored-behind v xs 0 vs ∙ ap (λ l. v ∷ l) (stored-all xs vs (omega (arith, e)))
 
 -- ---- a part of a list: m entries from place p
 pub part-length : {A : Type 0} (xs : List A) (p n m : ℕ) → n ≡ m → p + m ≤ length xs → length (take n (drop p xs)) ≡ m

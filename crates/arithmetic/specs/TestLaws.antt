@@ -1,5 +1,5 @@
 -- Laws of computed tests: a test that the checker computes over a whole table, as the rule at each entry.
-use mathlib.Core.Path.{_≡_, refl, ap, subst}
+use mathlib.Core.Path.{_≡_, refl, ap, subst, _∙_}
 use mathlib.Core.Bool.{Bool, true, false, cond}
 use mathlib.Core.List.{List, [], _∷_}
 use Prim.Native.Nat.{ℕ, zero, suc, _+_, _≤_, _<_}
@@ -86,6 +86,16 @@ pub all-make : (n : ℕ) (p : ℕ → Bool) → ((i : ℕ) → i < n → T (p i)
 unfolding all
 all-make zero p h = tt
 all-make (suc n) p h = both-make (all n p) (p n) (all-make n p (λ i q. h i (omega arith))) (h n (le-refl (suc n)))
+
+-- a place where a test fails, where not all hold
+pub all-fails : (n : ℕ) (p : ℕ → Bool) → all n p ≡ false → (i : ℕ) × (i < n) × (p i ≡ false)
+unfolding all
+all-fails zero p e = absurd (subst (λ (b : Bool). T b) e tt)
+all-fails (suc n) p e = go (all n p) refl (p n) refl e (all-fails n p)
+  where
+    go : (a : Bool) → all n p ≡ a → (b : Bool) → p n ≡ b → cond a b false ≡ false → (all n p ≡ false → (i : ℕ) × (i < n) × (p i ≡ false)) → (i : ℕ) × (i < suc n) × (p i ≡ false)
+    go false f b g z ih = let r = ih f in (r .0, omega (arith, r .1), r .2)
+    go true f b g z ih = (n, le-refl (suc n), g ∙ z)
 
 -- tests that are the same of each number below n
 pub all-same : (n : ℕ) (p q : ℕ → Bool) → ((i : ℕ) → i < n → p i ≡ q i) → all n p ≡ all n q

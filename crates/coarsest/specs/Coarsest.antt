@@ -21,9 +21,13 @@ stepped step X = table (length X) (λ k. back step (level step (at X k)))
 unfoldable pub returning : (step N H : ℕ) → List ℤ → List ℤ
 returning step N H x = synthesis ByBlock N H (stepped step (analysis Direct ByBlock N H x))
 
+-- sample i returns within D
+abbrev pub near : (N H : ℕ) → List ℤ → (D step i : ℕ) → Bool
+near N H x D step i = leb (natAbs (at (returning step N H x) i -ℤ at x i)) D
+
 -- the step passes: its 'samples .. all return within D'
 unfoldable pub passes : (N H : ℕ) → List ℤ → (D step : ℕ) → Bool
-passes N H x D step = all (H * (N / 2)) (λ i. leb (natAbs (at (returning step N H x) i -ℤ at x i)) D)
+passes N H x D step = all (H * (N / 2)) (near N H x D step)
 
 -- the search, with a step of this recording's as its trial
 unfoldable pub coarsest : (N H : ℕ) → List ℤ → (D budget : ℕ) → Found

@@ -32,7 +32,7 @@ use Rattle.stream.specs.NextLaws.{Fine, returned-at, returned-long}
 use Rattle.recording.specs.Recordings.{block, analysis, synthesis}
 use Rattle.recording.specs.BlockLaws.{block-sample}
 use Rattle.levels.specs.Levels.{level, back}
-use Rattle.coarsest.specs.Coarsest.{stepped, returning, passes}
+use Rattle.coarsest.specs.Coarsest.{stepped, returning, near, passes}
 use Rattle.coarsest.specs.SteppedLaws.{stepped-long, stepped-at, stepped-small}
 
 -- every entry is a sample
@@ -118,33 +118,30 @@ module _ (step N H : ℕ) (x : List ℤ) where
 
   -- ---- a trial, hop by hop
   module _ (D : ℕ) where
-    -- sample i is near, and all of hop h are
-    abbrev near : ℕ → Bool
-    near i = leb (natAbs (at (returning step N H x) i -ℤ at x i)) D
-
+    -- every sample of hop h is near
     abbrev pub hopNear : ℕ → Bool
     hopNear h = hopBeside N x h D (returned N (steppedBlock step N x) (suc h))
 
-    same : (h n : ℕ) → h < H → n < M → leb (natAbs (at (returned N (steppedBlock step N x) (suc h)) n -ℤ at x (h * M + n))) D ≡ near (h * M + n)
+    same : (h n : ℕ) → h < H → n < M → leb (natAbs (at (returned N (steppedBlock step N x) (suc h)) n -ℤ at x (h * M + n))) D ≡ near N H x D step (h * M + n)
     same h n p q = ap (λ (z : ℤ). leb (natAbs (z -ℤ at x (h * M + n))) D) (sym (returning-at h n p q))
 
     pub all-near : 0 < M → all H hopNear ≡ true → passes N H x D step ≡ true
     unfolding passes
-    all-near some e = is-true (all-make (H * M) near (λ i p. go i (place-of M H i some p)))
+    all-near some e = is-true (all-make (H * M) (near N H x D step) (λ i p. go i (place-of M H i some p)))
       where
-        go : (i : ℕ) → Place M H i → T (near i)
+        go : (i : ℕ) → Place M H i → T (near N H x D step i)
         go i o =
             let t : T (hopNear (i / M)) = all-at H hopNear (is-T e) (i / M) (o .before) in
             let u = all-at M (λ n. leb (natAbs (at (returned N (steppedBlock step N x) (suc (i / M))) n -ℤ at x (i / M * M + n))) D) t (i % M) (o .less) in
-            rw (ap near (sym (o .is)) ∙ sym (same (i / M) (i % M) (o .before) (o .less))) u
+            rw (ap (near N H x D step) (sym (o .is)) ∙ sym (same (i / M) (i % M) (o .before) (o .less))) u
 
     pub one-far : (h : ℕ) → h < H → hopNear h ≡ false → passes N H x D step ≡ false
     unfolding passes
-    one-far h p e = is-false (λ (t : T (all (H * M) near)). far t)
+    one-far h p e = is-false (λ (t : T (all (H * M) (near N H x D step))). far t)
       where
-        far : T (all (H * M) near) → ⊥
+        far : T (all (H * M) (near N H x D step)) → ⊥
         far t =
             let each : (n : ℕ) → n < M → T (leb (natAbs (at (returned N (steppedBlock step N x) (suc h)) n -ℤ at x (h * M + n))) D) =
-            λ n q. rw (same h n p q) (all-at (H * M) near t (h * M + n) (omega (arith, q, within h H M p))) in
+            λ n q. rw (same h n p q) (all-at (H * M) (near N H x D step) t (h * M + n) (omega (arith, q, within h H M p))) in
             let all-of-it : T (hopNear h) = all-make M (λ n. leb (natAbs (at (returned N (steppedBlock step N x) (suc h)) n -ℤ at x (h * M + n))) D) each in
             rw e at all-of-it

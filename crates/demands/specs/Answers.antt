@@ -292,10 +292,14 @@ pub record StateStepLevelsAnswers (state : List ℤ) (number left right : ℕ) (
 
 -- the calls for C answer as those above: their contracts are the same definitions, at a route by name and an order by its number, the told distance as `tell`, and on streams those of a state
 
+-- a number as it is typed, of at most so many digits, that names n
+pub record Whole (most : ℕ) (typed : List ℕ) (n : ℕ) : Type 0 where
+  pub form : T (isNumber most typed)
+  pub named : value typed ≡ pos n
+
 -- `table_report::report`, what the command step-table prints: for a length as it is typed, which is a number that names a tabled N, and the bytes of a table
 pub record Typed (number : List ℕ) (N : ℕ) : Type 0 where
-  pub form : T (isNumber digits number)
-  pub named : value number ≡ pos N
+  pub whole : Whole digits number N
   pub length-is : Tabled N
 
 pub record ReportAnswers (number text : List ℕ) : Type 0 where
@@ -379,6 +383,12 @@ pub record Begun (text : List ℕ) (N : ℕ) (hops : List (List ℕ)) : Type 0 w
 pub record Hops (N H : ℕ) (hops : List (List ℕ)) : Type 0 where
   pub each : (j : ℕ) → j < H → T (isHop (N / 2) (getD hops j []))
 
+-- a listing that is taken, of these hops
+pub record Listed (text : List ℕ) (N : ℕ) (hops : List (List ℕ)) : Type 0 where
+  pub begun : Begun text N hops
+  pub each : Hops N (length hops) hops
+  pub ended : length (remainder text) ≡ 0
+
 pub record ListingAnswers (text : List ℕ) : Type 0 where
   pub six : limit < length text → listing text ≡ refusal 6 0
   pub five-none : length text ≤ limit → lines text ≡ [] → listing text ≡ refusal 5 1
@@ -387,8 +397,7 @@ pub record ListingAnswers (text : List ℕ) : Type 0 where
       ((N : ℕ) → value first ≡ pos N → ¬ Tabled N) → listing text ≡ refusal 1 1
   pub five : (N H : ℕ) (hops : List (List ℕ)) → Begun text N hops → Hops N H hops → H < length hops → ¬ T (isHop (N / 2) (getD hops H [])) → listing text ≡ refusal 5 (H + 2)
   pub five-last : (N : ℕ) (hops : List (List ℕ)) → Begun text N hops → Hops N (length hops) hops → length (remainder text) ≢ 0 → listing text ≡ refusal 5 (length hops + 2)
-  pub taken : (N : ℕ) (hops : List (List ℕ)) → Begun text N hops → Hops N (length hops) hops → length (remainder text) ≡ 0 →
-      listing text ≡ table N (length hops) (returnedHops N text)
+  pub taken : (N : ℕ) (hops : List (List ℕ)) → Listed text N hops → listing text ≡ table N (length hops) (returnedHops N text)
   pub fits : length (listing text) ≤ room
 
 -- ---- the coarsest step (P13)
@@ -411,18 +420,7 @@ pub record FindAnswers (N H : ℕ) (x : List ℤ) (D budget : ℕ) (room : List 
   pub found : findCode N H x D room ≡ 0 → let a = coarsestAnswer N H x D budget in (a .code ≡ 0) × (findOut N H x D budget room ≡ a .step ∷ a .trials ∷ a .untried ∷ [])
   pub kept : findCode N H x D room ≢ 0 → findOut N H x D budget room ≡ room
 
--- `coarsest_report::report`, what the command coarsest-step prints: for a distance and a budget as they are typed, each a number of at most so many digits that names n, and
--- the bytes of a listing
-pub record Whole (most : ℕ) (typed : List ℕ) (n : ℕ) : Type 0 where
-  pub form : T (isNumber most typed)
-  pub named : value typed ≡ pos n
-
--- a listing that is taken, of these hops
-pub record Listed (text : List ℕ) (N : ℕ) (hops : List (List ℕ)) : Type 0 where
-  pub begun : Begun text N hops
-  pub each : Hops N (length hops) hops
-  pub ended : length (remainder text) ≡ 0
-
+-- `coarsest_report::report`, what the command coarsest-step prints: for a distance and a budget as they are typed, and the bytes of a listing
 pub record FoundReportAnswers (distance budget text : List ℕ) : Type 0 where
   -- a listing that round-trip refuses is refused alike
   pub alike : ((N : ℕ) (hops : List (List ℕ)) → ¬ Listed text N hops) → Reports.reportOf distance budget text ≡ listing text

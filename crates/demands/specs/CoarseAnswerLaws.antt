@@ -118,12 +118,12 @@ module _ (distance budget text : List ℕ) where
   alike : ((N : ℕ) (hops : List (List ℕ)) → ¬ Listed text N hops) → reportOf distance budget text ≡ listing text
   unfolding listing
   alike no-such =
-      let n : verdict text .code ≢ 0 = λ z. let l = verdict-listed text z in no-such (l .0) (l .1) (record { begun = l .2; each = l .3; ended = l .4 }) in
+      let n : verdict text .code ≢ 0 = λ z. let l = verdict-listed text z in no-such (l .0) (l .1) (l .2) in
       listing-refused distance budget text (verdict text) refl n ∙ rw (ne-eqb (verdict text .code) 0 n)
 
   module _ (N : ℕ) (hops : List (List ℕ)) (l : Listed text N hops) where
     is : taken N (length hops) ≡ verdict text
-    is = sym (taken-verdict text N hops (l .begun) (l .each) (l .ended))
+    is = sym (taken-verdict text N hops l)
 
     K : Taken text N (length hops)
     K = let z : verdict text .code ≡ 0 = ap (λ (v : Verdict). v .code) (sym is) in rw (sym is) at (verdict-taken text z)

@@ -1,19 +1,16 @@
 -- The coarsest step for a recording: what a trial says of the public calls, the steps that pass for every recording, and what is answered.
-use mathlib.Core.Path.{_≡_, refl, sym, ap, subst, _∙_}
-use mathlib.Core.Bool.{Bool, true, false, cond}
-use mathlib.Core.Logic.{dite}
+use mathlib.Core.Path.{_≡_, refl, sym, ap, _∙_}
+use mathlib.Core.Bool.{true, false}
 use mathlib.Core.List.{List}
-use Prim.Native.Nat.{ℕ, zero, suc, _+_, _*_, _/_, _≤_, _<_}
-use native.Mathlib.Nat.{le-refl}
+use Prim.Native.Nat.{ℕ, _+_, _*_, _/_, _≤_, _<_}
 use native.Mathlib.Omega.{arith}
-use native.Mathlib.Decide.{decLt}
 use borrow.Author.Tests.{leb-false}
-use lib.Dec.{T, leb, leb→le, le→leb}
+use lib.Dec.{leb→le, le→leb}
 use lib.ListN.{length, replicate, length-replicate}
 use lib.IntN.{ℤ, pos, natAbs, _-ℤ_}
 use Rattle.arithmetic.specs.Rounding.{Sample}
-use Rattle.arithmetic.specs.Lists.{at, all}
-use Rattle.arithmetic.specs.TestLaws.{is-T, is-true, all-at, all-make}
+use Rattle.arithmetic.specs.Lists.{at}
+use Rattle.arithmetic.specs.TestLaws.{is-T, is-true, all-at, all-make, all-fails}
 use Rattle.analysis.specs.declared.Route.the-variants.{Direct}
 use Rattle.orders.specs.declared.Order.{Order}
 use Rattle.orders.specs.declared.Order.the-variants.{ByBlock}
@@ -28,7 +25,7 @@ use Rattle.recording_calls.specs.RecordingLaws.{Recorded, recorded-facts, recor
 use Rattle.step_search.specs.declared.Found.{Found}
 use Rattle.step_search.specs.Search.{sure, found}
 use Rattle.step_search.specs.SearchLaws.{sure-is, sure-below, answered, at-32, at-31, at-0}
-use Rattle.coarsest.specs.Coarsest.{stepped, returning, passes, coarsest}
+use Rattle.coarsest.specs.Coarsest.{stepped, returning, near, passes, coarsest}
 use Rattle.coarsest.specs.SteppedLaws.{stepped-long, stepped-at, stepped-small}
 use Rattle.coarsest_calls.specs.CoarsestCalls.{coarsestAnswer, answeredWith}
 use Rattle.coarsest_calls.specs.CoarsestCallLaws.{coarsest-facts, coarsest-taken, coarsest-number}
@@ -116,30 +113,17 @@ module _ (N H : ℕ) (x : List ℤ) (samples : (i : ℕ) → i < length x → Sa
 
 -- ---- a trial, in words of the calls
 module _ (N H : ℕ) (x : List ℤ) (samples : (i : ℕ) → i < length x → Sample (at x i)) (D step : ℕ) where
-  abbrev near : ℕ → Bool
-  near i = leb (natAbs (at (returning step N H x) i -ℤ at x i)) D
-
   pub passes-keeps : passes N H x D step ≡ true → Keeps N H x D step
   unfolding passes
   passes-keeps e = record {
     plays = λ order room out taken l. stepped-plays N H x samples room taken order out l step;
-    near = λ order room out taken l i p. rw (there-and-back-is N H x samples room taken step out l order) (leb→le (natAbs (at (returning step N H x) i -ℤ at x i)) D (all-at (H * (N / 2)) near (is-T e) i p));
+    near = λ order room out taken l i p. rw (there-and-back-is N H x samples room taken step out l order) (leb→le (natAbs (at (returning step N H x) i -ℤ at x i)) D (all-at (H * (N / 2)) (near N H x D step) (is-T e) i p));
   }
-
-  -- the first place where a test fails
-  first-fails : (p : ℕ → Bool) (n : ℕ) → all n p ≡ false → (i : ℕ) × (i < n) × (p i ≡ false)
-  unfolding all
-  first-fails p zero e = absurd (subst (λ (b : Bool). T b) e tt)
-  first-fails p (suc n) e = go (all n p) refl (p n) refl e (first-fails p n)
-    where
-      go : (a : Bool) → all n p ≡ a → (b : Bool) → p n ≡ b → cond a b false ≡ false → (all n p ≡ false → (i : ℕ) × (i < n) × (p i ≡ false)) → (i : ℕ) × (i < suc n) × (p i ≡ false)
-      go false f b g z ih = let r = ih f in (r .0, omega (arith, r .1), r .2)
-      go true f b g z ih = (n, le-refl (suc n), g ∙ z)
 
   pub fails-beyond : passes N H x D step ≡ false → Fails N H x D step
   unfolding passes
   fails-beyond e =
-      let f = first-fails near (H * (N / 2)) e in
+      let f = all-fails (H * (N / 2)) (near N H x D step) e in
       record {
         place = f .0;
         inside = f .1;
@@ -165,7 +149,7 @@ module _ (N H : ℕ) (x : List ℤ) (samples : (i : ℕ) → i < length x → Sa
   by-near : (step : ℕ) → ((i : ℕ) → i < H * (N / 2) → natAbs (at (thereAndBack ByBlock step N H x room out) i -ℤ at x i) ≤ D) → passes N H x D step ≡ true
   unfolding passes
   by-near step n =
-      is-true (all-make (H * (N / 2)) (near N H x samples D step)
+      is-true (all-make (H * (N / 2)) (near N H x D step)
       (λ i p. le→leb (natAbs (at (returning step N H x) i -ℤ at x i)) D (rw (there-and-back-is N H x samples room taken step out out-long ByBlock) at (n i p))))
 
   -- by the told distance

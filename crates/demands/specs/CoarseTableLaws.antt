@@ -1,11 +1,10 @@
 -- The coarsest step and step tables (P8): one step on every coefficient is what `quantise` and `dequantise` make of them by a table of that step, and what is told of a table with the sure step.
-use mathlib.Core.Path.{_≡_, refl, sym, ap, _∙_}
+use mathlib.Core.Path.{_≡_, sym, ap, _∙_}
 use mathlib.Core.Logic.{dite}
 use mathlib.Core.List.{List}
 use Prim.Native.Nat.{ℕ, _+_, _*_, _/_, _^_, _≤_, _<_}
 use native.Mathlib.Omega.{arith}
 use native.Mathlib.Decide.{decLt}
-use lib.Dec.{T}
 use lib.ListN.{length, replicate, length-replicate}
 use lib.IntN.{ℤ, pos}
 use Rattle.arithmetic.specs.Rounding.{Sample}

@@ -119,7 +119,7 @@ typed-length : (number : List ℕ) (N : ℕ) → Typed number N → lengthOf num
 unfolding lengthIn
 typed-length number N t =
     let e : tabled N ≡ true = is-true (t .length-is) in
-    of-some number (is-true (t .form)) ∙ ap lengthIn (t .named) ∙ rw e
+    of-some number (is-true (t .whole .form)) ∙ ap lengthIn (t .whole .named) ∙ rw e
 
 length-typed : (number : List ℕ) → lengthOf number ≢ 0 → Typed number (lengthOf number)
 unfolding lengthOf lengthIn
@@ -129,7 +129,7 @@ length-typed number n = go (isNumber digits number) refl n
     by (pos N) f e n = under (tabled N) refl n
       where
         under : (b : Bool) → tabled N ≡ b → cond b N 0 ≢ 0 → Typed number (cond b N 0)
-        under true g n = record { form = is-T f; named = e; length-is = is-T g }
+        under true g n = record { whole = record { form = is-T f; named = e }; length-is = is-T g }
         under false g n = absurd (n refl)
     by (negsuc N) f e n = absurd (n refl)
 

@@ -21,7 +21,7 @@ use Rattle.listing.specs.Verdicts.{limit, refused, taken, byHops, byLength, byL
 use Rattle.text.specs.Refusal.{refusal}
 use Rattle.listing.specs.Listing.{returnedHops, table, listing}
 use Rattle.listing.specs.SizeLaws.{listing-most}
-use Rattle.demands.specs.Answers.{Tabled, Begun, Hops, ListingAnswers}
+use Rattle.demands.specs.Answers.{Tabled, Begun, Hops, Listed, ListingAnswers}
 
 -- ---- the lines behind the first, H₀ hops being read
 hops-first : (N H : ℕ) (l : List ℕ) (ls : List (List ℕ)) → Hops N (suc H) (l ∷ ls) → T (isHop (N / 2) l)
@@ -98,11 +98,11 @@ module _ (text : List ℕ) where
   too-long p = rw (lt-ltb limit (length text) p)
 
   -- a listing that is taken
-  pub taken-verdict : (N : ℕ) (hops : List (List ℕ)) → Begun text N hops → Hops N (length hops) hops → length (remainder text) ≡ 0 → verdict text ≡ taken N (length hops)
-  taken-verdict N hops g h z = begun-verdict N hops g ∙ rw zero-add at (by-all N 0 hops (remainder text) h z)
+  pub taken-verdict : (N : ℕ) (hops : List (List ℕ)) → Listed text N hops → verdict text ≡ taken N (length hops)
+  taken-verdict N hops l = begun-verdict N hops (l .begun) ∙ rw zero-add at (by-all N 0 hops (remainder text) (l .each) (l .ended))
 
   -- and what is not refused is one
-  pub verdict-listed : verdict text .code ≡ 0 → (N : ℕ) × (hops : List (List ℕ)) × Begun text N hops × Hops N (length hops) hops × (length (remainder text) ≡ 0)
+  pub verdict-listed : verdict text .code ≡ 0 → (N : ℕ) × (hops : List (List ℕ)) × Listed text N hops
   verdict-listed z = by (lines text) refl
     where
       K : Taken text (verdict text .n) (verdict text .hops)
@@ -112,15 +112,17 @@ module _ (text : List ℕ) where
       number-by first hops e true f = tt
       number-by first hops e false f = absurd (omega (arith, z, ap (λ (v : Verdict). v .code) (first-bad first hops (K .small) e (λ t. rw f at t))))
 
-      by : (ls : List (List ℕ)) → lines text ≡ ls → (N : ℕ) × (hops : List (List ℕ)) × Begun text N hops × Hops N (length hops) hops × (length (remainder text) ≡ 0)
+      by : (ls : List (List ℕ)) → lines text ≡ ls → (N : ℕ) × (hops : List (List ℕ)) × Listed text N hops
       by [] e = absurd (omega (arith, z, ap (λ (v : Verdict). v .code) (none (K .small) e)))
       by (first ∷ hops) e =
           let c : length hops ≡ verdict text .hops = omega (arith, rw e at (K .counted)) in (
             verdict text .n,
             hops,
-            record { small = K .small; first = first; are = e; number = number-by first hops e (isNumber digits first) refl; named = rw e at (K .first); length-is = K .length-tabled },
-            record { each = λ j p. rw e at (K .hop j (omega (arith, p, c))) },
-            K .ended,
+            record {
+              begun = record { small = K .small; first = first; are = e; number = number-by first hops e (isNumber digits first) refl; named = rw e at (K .first); length-is = K .length-tabled };
+              each = record { each = λ j p. rw e at (K .hop j (omega (arith, p, c))) };
+              ended = K .ended;
+            },
           )
 
   prints : (N H : ℕ) → verdict text ≡ taken N H → listing text ≡ table N H (returnedHops N text)
@@ -135,6 +137,6 @@ module _ (text : List ℕ) where
     one = λ p first hops e t n. refuses 0 1 (first-line first hops p e t ∙ untabled (value first) hops (remainder text) n);
     five = λ N H hops g h p n. refuses 4 (H + 2) (begun-verdict N hops g ∙ rw zero-add at (by-bad N 0 H hops (remainder text) h p n));
     five-last = λ N hops g h n. refuses 4 (length hops + 2) (begun-verdict N hops g ∙ rw zero-add at (by-rest N 0 hops (remainder text) h n));
-    taken = λ N hops g h z. prints N (length hops) (taken-verdict N hops g h z);
+    taken = λ N hops l. prints N (length hops) (taken-verdict N hops l);
     fits = listing-most text;
   }

@@ -10,6 +10,7 @@ use lib.Dec.{T, eqb, eqb→eq}
 use lib.ListN.{length, getD, set}
 use lib.IntN.{ℤ}
 use lib.Ieee.{Float, nan, binary64, ofBits, ofFields, odd}
+use Rattle.arithmetic.specs.ListLaws.{stored-all}
 use Rattle.arithmetic.specs.TestLaws.{is-true}
 use Rattle.cosine.specs.Kernels.{tabled}
 use Rattle.cosine.specs.LengthLaws.{length-of}
@@ -51,13 +52,6 @@ module _ (N : ℕ) (x : List ℤ) (out : List Float) where
   floats-taken e = rw e
 
 -- ---- `put_ends`
--- two stores fill a list of two
-two-stores : (xs : List Float) (a b : Float) → length xs ≡ 2 → set (set xs 0 a) 1 b ≡ a ∷ b ∷ []
-two-stores [] a b h = absurd (omega arith)
-two-stores (x ∷ []) a b h = absurd (omega arith)
-two-stores (x ∷ y ∷ []) a b h = refl
-two-stores (x ∷ y ∷ z ∷ xs) a b h = absurd (omega arith)
-
 module _ (N : ℕ) (x : List ℤ) (pair : List Float) where
   pub pair-refused : pairCode N x pair ≢ 0 → pair ≡ pairOut N x pair
   unfolding pairOut
@@ -65,7 +59,7 @@ module _ (N : ℕ) (x : List ℤ) (pair : List Float) where
 
   pub pair-taken : (h l : Float) → h ≡ sixtyFourth (highestOf x) → l ≡ sixtyFourth (lowestOf x) → pairCode N x pair ≡ 0 → set (set pair 0 h) 1 l ≡ pairOut N x pair
   unfolding pairOut
-  pair-taken h l p q e = rw (e, p, q) (two-stores pair (sixtyFourth (highestOf x)) (sixtyFourth (lowestOf x)) (block-facts N x (length pair) 2 e .room-is))
+  pair-taken h l p q e = rw (e, p, q) (stored-all pair (sixtyFourth (highestOf x) ∷ sixtyFourth (lowestOf x) ∷ []) (block-facts N x (length pair) 2 e .room-is))
 
 -- ---- by value: a pair of zeros
 -- the literal 0.0, as the machine has it

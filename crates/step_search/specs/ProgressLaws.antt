@@ -14,6 +14,9 @@ use Rattle.step_search.specs.Progress.{begun, unfinished, behind, stoppe
 use Rattle.step_search.specs.declared.Search.{Search}
 use Rattle.step_search.specs.declared.Found.{Found}
 
+less : (n : ℕ) → suc n - 1 ≡ n
+less n = omega arith
+
 -- ---- one trial of the definition
 module _ (pass : ℕ → Bool) (least : ℕ) where
   none-left : (gap budget : ℕ) → (gap ≡ 0) → searched pass least gap budget ≡ untouched least gap
@@ -32,9 +35,6 @@ module _ (pass : ℕ → Bool) (least : ℕ) where
   one-passes zero budget h k e = absurd (omega arith)
   one-passes (suc gap) zero h k e = absurd (omega arith)
   one-passes (suc gap) (suc budget) h k e = rw e
-
-  less : (n : ℕ) → suc n - 1 ≡ n
-  less n = omega arith
 
   one-fails : (gap budget : ℕ) → 0 < gap → 0 < budget → pass (least + gap) ≡ false → searched pass least gap budget ≡ failing (least + gap) (searched pass least (gap - 1) (budget - 1))
   unfolding searched

@@ -53,8 +53,9 @@ pub record Right (pass : ℕ → Bool) (least high budget : ℕ) (c : Course) : 
   pub used : 0 < c .untried → length (c .failed) + length (c .passed) ≡ budget
 
 module _ (pass : ℕ → Bool) (least : ℕ) where
-  ended : (budget : ℕ) → Right pass least (least + 0) budget (untouched least 0)
-  ended budget = record {
+  -- nothing is tried where no step is left, or no trial
+  ended : (gap budget : ℕ) → (0 < gap → 0 ≡ budget) → Right pass least (least + gap) budget (untouched least gap)
+  ended gap budget none = record {
     from = le-refl least;
     upto = omega arith;
     above = λ h. absurd (omega (arith, h));
@@ -62,19 +63,7 @@ module _ (pass : ℕ → Bool) (least : ℕ) where
     adds-up = omega arith;
     tried = λ s k l. absurd (omega (arith, k, l));
     within = omega arith;
-    used = λ h. absurd (omega (arith, h));
-  }
-
-  spent : (gap : ℕ) → Right pass least (least + gap) 0 (untouched least gap)
-  spent gap = record {
-    from = le-refl least;
-    upto = omega arith;
-    above = λ h. absurd (omega (arith, h));
-    at-sure = λ h. refl;
-    adds-up = omega arith;
-    tried = λ s k l. absurd (omega (arith, k, l));
-    within = omega arith;
-    used = λ h. refl;
+    used = none;
   }
 
   passed : (high budget : ℕ) → least < high → pass high ≡ true → Right pass least high (suc budget) (passing high)
@@ -103,8 +92,8 @@ module _ (pass : ℕ → Bool) (least : ℕ) where
 
   right : (gap budget : ℕ) → Right pass least (least + gap) budget (searched pass least gap budget)
   unfolding searched
-  right zero budget = ended budget
-  right (suc gap) zero = spent (suc gap)
+  right zero budget = ended 0 budget (λ h. absurd (omega (arith, h)))
+  right (suc gap) zero = ended (suc gap) 0 (λ h. refl)
   right (suc gap) (suc budget) = by (pass (least + suc gap)) refl (right gap budget)
     where
       by : (t : Bool) → pass (least + suc gap) ≡ t → Right pass least (least + gap) budget (searched pass least gap budget)

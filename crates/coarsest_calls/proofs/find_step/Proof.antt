@@ -1,5 +1,6 @@
 -- `find_step` meets its contract: the causes in their order, each with the number that its law gives, and then the three numbers.
 use mathlib.Core.Path.{_≡_, sym, ap, _∙_}
+use mathlib.Core.List.{[], _∷_}
 use mathlib.Core.Bool.{true}
 use Prim.Native.Nat.{_≤_}
 use native.Mathlib.Omega.{arith}
@@ -7,7 +8,7 @@ use borrow.Author.Needs.{needs}
 use borrow.Author.Tests.{not-true, not-false, le-leb, lt-leb}
 use lib.ListN.{length, length-set}
 use Rattle.arithmetic.specs.TestLaws.{is-T}
-use Rattle.arithmetic.specs.ListLaws.{three}
+use Rattle.arithmetic.specs.ListLaws.{stored-all}
 use Rattle.cosine.specs.Kernels.{tabled}
 use Rattle.checks.specs.Limits.{counted}
 use Rattle.checks.specs.Causes.First.{none, stop, pass}
@@ -109,7 +110,7 @@ returns-6 c =
     let f = c .coarsest-step .result in
     let q = find-answer (a .n) (a .hops) (a .x .now) (a .allowed) (a .budget) (a .room .now)
     (pass (good (e c .before .before)) (pass (few (e c)) (same (c .before .before .before .if3 .left) (same (wide c) (pass (le-leb (a .allowed) mostAllowed (omega (arith, c .before .if5 .left))) none))))) in
-    (q .0, three (a .room .now) (f .step) (f .trials) (f .untried) (wide c) ∙ ap numbersOf (c .coarsest-step .ensures) ∙ q .1)
+    (q .0, stored-all (a .room .now) (f .step ∷ f .trials ∷ f .untried ∷ []) (wide c) ∙ ap numbersOf (c .coarsest-step .ensures) ∙ q .1)
 
 pub find-step-spec : {M : Type 1} → statement M
 find-step-spec =

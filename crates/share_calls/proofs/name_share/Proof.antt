@@ -7,7 +7,7 @@ use Prim.Native.Nat.{ℕ, _/_}
 use native.Mathlib.Omega.{arith}
 use borrow.Author.Tests.{not-true, not-false}
 use lib.ListN.{length, length-set}
-use Rattle.arithmetic.specs.ListLaws.{three}
+use Rattle.arithmetic.specs.ListLaws.{stored-all}
 use Rattle.checks.specs.LimitLaws.{hop-sixes}
 use Rattle.share_calls.specs.ShareCalls.{sizeCode, ranged, numbersOf}
 use Rattle.share_calls.specs.ShareCallLaws.{Sizes, sizes, ranges, name-sized-away, name-long, name-out-of-range, name-taken}
@@ -118,7 +118,7 @@ returns-4 c =
     let a = start (e c) .args in
     let q = name-taken (a .n) (a .shape) (a .first .now) (a .first-changed .now) (a .second .now) (a .second-changed .now) (a .place) (a .named .now) (sized (e c)) (wide c) (inside (h c)) in
     let f = c .before .largest-share .result in
-    (q .0, three (a .named .now) (c .flag .result) (f .block) (f .coefficient) (wide c) ∙ ap (λ (k : ℕ). k ∷ f .block ∷ f .coefficient ∷ []) (c .flag .ensures) ∙ ap numbersOf (c .before .largest-share .ensures) ∙ q .1)
+    (q .0, stored-all (a .named .now) (c .flag .result ∷ f .block ∷ f .coefficient ∷ []) (wide c) ∙ ap (λ (k : ℕ). k ∷ f .block ∷ f .coefficient ∷ []) (c .flag .ensures) ∙ ap numbersOf (c .before .largest-share .ensures) ∙ q .1)
 
 pub name-share-spec : {M : Type 1} → statement M
 name-share-spec =

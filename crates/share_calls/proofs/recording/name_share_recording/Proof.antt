@@ -10,7 +10,7 @@ use borrow.Author.Needs.{needs}
 use lib.ListN.{length, length-set}
 use Rattle.checks.specs.LimitLaws.{counted-most}
 use Rattle.share_calls.specs.ShareCalls.{numbersOf}
-use Rattle.arithmetic.specs.ListLaws.{three}
+use Rattle.arithmetic.specs.ListLaws.{stored-all}
 use Rattle.share_calls.specs.RecordingShares.{placeCode, bothRanged, numberedFrom}
 use Rattle.share_calls.specs.RecordingShareLaws.{Placed, places, both-ranges, name-placed-away, name-long, name-out-of-range, name-taken, share-block}
 use Rattle.share_calls.proofs.recording.name_share_recording.Statement.{statement}
@@ -121,7 +121,7 @@ returns-4 c =
     let q = name-taken (a .n) (a .hops) (a .original .now) (a .changed .now) (a .hop) (a .place) (a .order) (a .room .now) (placed (e c)) (room-long c) (inside (h c)) in
     let f = c .before .numbered-from .result in (
       q .0,
-      three (a .room .now) (c .flag .result) (f .block) (f .coefficient) (room-long c)
+      stored-all (a .room .now) (c .flag .result ∷ f .block ∷ f .coefficient ∷ []) (room-long c)
           ∙ ap (λ (k : ℕ). k ∷ f .block ∷ f .coefficient ∷ []) (c .flag .ensures)
           ∙ ap numbersOf (c .before .numbered-from .ensures ∙ ap (numberedFrom (a .hop)) (c .before .before .share-at .ensures))
           ∙ q .1,
