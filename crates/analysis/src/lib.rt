@@ -1,10 +1,12 @@
 // The routes, and one block of a length at which its route is offered, valid by its requires.
 // No function here is a public call: `recording` and the public calls over blocks call `analyse_block`, after every check.
+#![tactic(auto)]
+
 ghost use Rattle.std.specs.Prelude.{◌≡◌, ◌/◌, T, length};
 ghost use Rattle.analysis.specs.Analysis.{offered, coefficients};
 
 // How a block is analysed. The short route is document 01's term for the one in thirds; the double route, document 02's third, splits the thirds again.
-#[derive(Drop)]
+#[derive(Clone, Copy)]
 pub enum Route {
     Direct,
     Short,

@@ -1,5 +1,7 @@
 // Rounding and clamping of signed sums. The laws of whole numbers that every other crate cites are in specs/.
 // No function here is a public call: `transform`, `split`, `stream` and `text` call them, each under its requires.
+#![tactic(auto)]
+
 ghost use Rattle.std.specs.Prelude.{◌≡◌, ◌+◌, ◌≤◌, ◌<◌, ◌*◌, ◌/◌, ◌^◌, T, pos, neg_ℤ, nat_abs, ◌≤ℤ◌, ◌<ℤ◌};
 ghost use Rattle.std.specs.Int.Signed.{shr_z};
 ghost use Rattle.std.specs.Int.{w64};

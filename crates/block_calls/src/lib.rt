@@ -1,5 +1,7 @@
 // The public call on one block: its checks and refusals, in the documents' order, and nothing else. `filter_bank` hands it on.
 // It has no requires: any numbers and any buffer lengths may be handed in.
+#![tactic(auto)]
+
 ghost use Rattle.std.specs.Prelude.{◌≡◌};
 ghost use Rattle.block_calls.specs.Analysis.{analyse_code, analyse_out};
 

@@ -1,6 +1,8 @@
 // The sums of a block with the folded kernel, a body for each length from 24 on, in exact thirds: each part lends its own tables and calls its leaf by itself, so
 // that the compiler knows every count. The leaves are in `transform`. A length has a frame of its own, so that none pays for the tables of a longer one.
 // No function here is a public call: the bodies of `analysis` and `synthesis` call `sums_24` .. `sums_216`, under their requires.
+#![tactic(auto)]
+
 ghost use Rattle.std.specs.Prelude.{◌≡◌, ◌+◌, ◌*◌, length};
 ghost use Rattle.arithmetic.specs.Lists.{table};
 ghost use Rattle.transform.specs.InverseLaws.{folds};

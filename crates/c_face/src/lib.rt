@@ -1,5 +1,7 @@
 // The calls for C: a slice crosses as a pointer and a length, a stream as a state. Each hands on to the bank's own call.
 // No call has a requires: any numbers and any lengths may be handed in. include/dapplescree.h says the same in C's words.
+#![tactic(auto)]
+
 ghost use Rattle.std.specs.Prelude.{◌≡◌};
 ghost use Rattle.analysis.specs.declared.Route.TheVariants.{Direct, Short, Double};
 ghost use Rattle.block_calls.specs.Analysis.{analyse_code, analyse_out};

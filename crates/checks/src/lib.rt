@@ -1,5 +1,7 @@
 // The checks of lengths, shapes, numbers of hops, tails and coefficients, which the public calls share.
 // No function here is a public call.
+#![tactic(auto)]
+
 ghost use Rattle.std.specs.Prelude.{◌≡◌, ◌*◌, ◌/◌, ◌^◌, ◌≤◌, length};
 ghost use Rattle.arithmetic.specs.Lists.{at, all};
 ghost use Rattle.stream.specs.Synthesis.{storage};

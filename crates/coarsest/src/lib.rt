@@ -1,5 +1,7 @@
 // The coarsest step for a recording (document 02, P13): a trial of a step, block by block, and the search over trials.
 // No function here is a public call: `coarsest_calls` calls `coarsest_step`, after every check. Nothing of a recording's size is kept.
+#![tactic(auto)]
+
 mod stepped;
 mod trial;
 

@@ -1,10 +1,12 @@
 // The public calls on the coarsest step for a recording: their checks and refusals, in the documents' order, and nothing else. What a trial is, and the search, is in
 // `coarsest`. No call has a requires: any numbers and any lengths may be handed in.
+#![tactic(auto)]
+
 ghost use Rattle.std.specs.Prelude.{◌≡◌};
 ghost use Rattle.coarsest_calls.specs.CoarsestCalls.{coarsest_answer, find_code, find_out};
 
 // What `coarsest_step` answers: a number, the step, the trials made, and how many untried steps lie above the step; all 0 beside a refusal.
-#[derive(Drop)]
+#[derive(Clone, Copy)]
 pub struct Coarsest {
     pub code: u32,
     pub step: u32,

@@ -1,4 +1,6 @@
 // The program coarsest-step on bytes: `report` takes any bytes, and what it writes is the definition of specs/Report.
+#![tactic(auto)]
+
 mod print;
 mod read;
 mod typed;

@@ -1,6 +1,8 @@
 // The cosine table, the window and the kernels, read at any place. The facts about them are in specs/.
 // No function here is a public call: the public calls and `listing` call `is_tabled`. The others are read by `shares` and by test programs: the bank lends the
 // tables of `tables`, which are proved from the same definitions. Who reads the table is lent it: a const that is read in place is copied at each access.
+#![tactic(auto)]
+
 ghost use Rattle.std.specs.Prelude.{◌≡◌, ◌≤◌, ◌<◌, ◌*◌, ◌/◌, T, pos};
 ghost use Rattle.cosine.specs.Cosine.{quarter, first_quarter, C};
 ghost use Rattle.cosine.specs.TableLaws.{numbers};

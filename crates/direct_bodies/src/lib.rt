@@ -1,6 +1,8 @@
 // The direct analysis of one block, a body for each length: each lends its own tables and calls every leaf by itself, so that the compiler knows every
 // count. The leaves are in `transform`, the sums from N = 36 on in `block_sums`.
 // No function here is a public call: `analysis` and `listing` call `analyse`, after every check.
+#![tactic(auto)]
+
 ghost use Rattle.std.specs.Prelude.{◌≡◌, ◌/◌, T, length};
 ghost use Rattle.cosine.specs.Kernels.{tabled, rising, falling};
 ghost use Rattle.transform.specs.Analysis.{y, direct};

@@ -1,5 +1,7 @@
 // The double route's analysis of one windowed block of a length at which it is offered, valid by its requires. Definitions are in specs/.
 // No function here is a public call: `analysis` calls `double_block`, after every check of the public calls, and `checks` asks `is_offered`.
+#![tactic(auto)]
+
 mod sums;
 mod thirds;
 

@@ -1,4 +1,6 @@
 // The public calls of the bank, by family: one block, step tables and levels, shares, streams as values and in states, whole recordings, the coarsest step for one, coefficients as floats. What each promises stands with it.
+#![tactic(auto)]
+
 pub use analysis::Route;
 pub use block_calls::analyse;
 pub use coarsest_calls::{Coarsest, coarsest_step, find_step};

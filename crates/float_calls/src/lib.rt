@@ -1,17 +1,19 @@
 // The public calls on floats: their checks and refusals, in the documents' order, and nothing else. What a coefficient is as a float, and which of a block is the highest
 // and the lowest, is in `floats`. No public call has a requires: any numbers and any lengths may be handed in.
+#![tactic(auto)]
+
 ghost use Rattle.std.specs.Prelude.{◌≡◌};
 ghost use Rattle.float_calls.specs.FloatCalls.{block_code, floats_code, floats_out, ends_of, pair_code, pair_out};
 
 // The highest and the lowest coefficient of a block, as floats.
-#[derive(Drop)]
+#[derive(Clone, Copy)]
 pub struct Pair {
     pub highest: f64,
     pub lowest: f64,
 }
 
 // What `highest_lowest` answers: a number, and the pair, both 0.0 beside a refusal.
-#[derive(Drop)]
+#[derive(Clone, Copy)]
 pub struct Ends {
     pub code: u32,
     pub pair: Pair,

@@ -1,5 +1,7 @@
 // Coefficients for the plotting desk (document 02, P14): X / 64 as a 64-bit float, and the highest and the lowest coefficient of a block.
 // No function here is a public call: the calls on floats call them, after every check.
+#![tactic(auto)]
+
 ghost use Rattle.std.specs.Prelude.{◌≡◌, ◌<◌, length};
 ghost use Rattle.floats.specs.Floats.{sixty_fourth, floats_of, larger, smaller, highest_of, lowest_of};
 

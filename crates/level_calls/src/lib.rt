@@ -1,5 +1,7 @@
 // The public calls on step tables and levels: their checks and refusals, in the documents' order, and nothing else. What a table says is in `steps`, and a
 // level in `levels`. No public call has a requires: any bytes, any numbers and any lengths may be handed in.
+#![tactic(auto)]
+
 ghost use Rattle.std.specs.Prelude.{◌≡◌, ◌/◌, T, length};
 ghost use Rattle.cosine.specs.Kernels.{tabled};
 ghost use Rattle.analysis.specs.Analysis.{units_of};
@@ -75,7 +77,7 @@ pub fn dequantise(n: usize, table: &[u8], levels: &[i32], out: &mut [i32]) -> u3
 }
 
 // What `told_distance` answers: a number, and the distance, 0 beside a refusal.
-#[derive(Drop)]
+#[derive(Clone, Copy)]
 pub struct Told {
     pub code: u32,
     pub distance: u32,
@@ -161,7 +163,7 @@ pub fn tell(number: u32, n: usize, table: &[u8], room: &mut [u32]) -> u32
 
 // What a step on levels brings: what it is turned away with, the table's number or 2 for the length of its levels, or 0, and then the coefficients that come back in the
 // first M places.
-#[derive(Drop)]
+#[derive(Clone, Copy)]
 pub struct Brought {
     pub code: u32,
     pub x: [i32; LONGEST],

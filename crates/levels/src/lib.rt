@@ -1,5 +1,7 @@
 // A coefficient by its step, and back (document 02, P8), and whole blocks of them.
 // No function here is a public call: the calls on step tables call them, after every check, and `coarsest` calls `magnitude`.
+#![tactic(auto)]
+
 ghost use Rattle.std.specs.Prelude.{◌≡◌, ◌+◌, ◌/◌, ◌^◌, ◌≤◌, length, pos, nat_abs, ◌*ℤ◌};
 ghost use Rattle.arithmetic.specs.Lists.{Small};
 ghost use Rattle.levels.specs.Levels.{Step, Stepping, back, clipped, level, levelled, restored, step_at};

@@ -1,12 +1,14 @@
 // Where the coefficients of a recording lie (document 02, P10), and a block taken from its places and put in them.
 // No function here is a public call: `recording`, `recording_calls`, `page` and `share_calls` call them after every check, and `c_face` calls `numbered` and `hops_in` before any.
+#![tactic(auto)]
+
 ghost use Rattle.std.specs.Prelude.{◌≡◌, ◌++◌, min, ◌+◌, ◌*◌, ◌-◌, ◌≤◌, ◌<◌, length, replicate, pos};
 ghost use Rattle.arithmetic.specs.Lists.{at, table};
 ghost use Rattle.orders.specs.declared.Order.TheVariants.{ByFrequency};
 ghost use Rattle.orders.specs.Orders.{order_of, hops_in, place, part, tiled, other, reordered};
 
 // In which order: block after block, or coefficient after coefficient.
-#[derive(Drop)]
+#[derive(Clone, Copy)]
 pub enum Order {
     ByBlock,
     ByFrequency,

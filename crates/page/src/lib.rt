@@ -1,5 +1,7 @@
 // A recording's coefficients printed as a page: `page` is a public call, with its checks and refusals in document 01's order. It has no requires:
 // any numbers and any buffer lengths may be handed in. H is the number of hops; a recording has H + 1 blocks.
+#![tactic(auto)]
+
 mod lines;
 
 ghost use Rattle.std.specs.Prelude.{◌≡◌};

@@ -1,6 +1,8 @@
 // Whole recordings, block by block, their coefficients in either order.
 // No function here is a public call: the public calls over recordings call `analyse` and `synthesise`, under their requires, after every check, `coarsest` calls
 // `blocks_from`, and `listing` begins with `silent_block`.
+#![tactic(auto)]
+
 ghost use Rattle.std.specs.Prelude.{◌≡◌, ◌+◌, ◌*◌, ◌/◌, ◌^◌, ◌≤◌, ◌<◌, T, length, replicate, pos};
 ghost use Rattle.arithmetic.specs.Lists.{Small, joined};
 ghost use Rattle.cosine.specs.Kernels.{tabled, rising, falling};

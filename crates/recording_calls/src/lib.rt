@@ -1,5 +1,7 @@
 // The public calls over whole recordings: their checks and refusals, in document 01's order, and nothing else. `filter_bank` hands them on.
 // None has a requires: any numbers and any buffer lengths may be handed in. H is the number of hops; a recording has H + 1 blocks.
+#![tactic(auto)]
+
 pub mod reorder;
 
 ghost use Rattle.std.specs.Prelude.{◌≡◌};

@@ -1,5 +1,7 @@
 // The public calls on shares: their checks and refusals, in the documents' order, and nothing else. What a share is, and which is the largest, is in `shares`. No public
 // call has a requires: any numbers and any lengths may be handed in.
+#![tactic(auto)]
+
 pub mod recording;
 
 ghost use Rattle.std.specs.Prelude.{◌≡◌, ◌*◌, ◌/◌, length};
@@ -7,7 +9,7 @@ ghost use Rattle.share_calls.specs.ShareCalls.{refused_with, flag_of, size_code,
 
 // What the calls on shares answer: a number, whether any share is not zero, and then the block and the coefficient with the largest; all 0 beside a refusal. The block is 0,
 // the earlier, or 1, the later, of two, and of a recording its number there.
-#[derive(Drop)]
+#[derive(Clone, Copy)]
 pub struct Share {
     pub code: u32,
     pub any: bool,

@@ -1,5 +1,7 @@
 // Which coefficient moved a sample: shares of two blocks compared exactly (document 02, P9).
 // No function here is a public call: the calls on shares call `largest_share`, after every check.
+#![tactic(auto)]
+
 mod words;
 
 ghost use Rattle.std.specs.Prelude.{◌≡◌, ◌*◌, ◌/◌, ◌^◌, ◌≤◌, ◌<◌, T, length, nat_abs, ◌-ℤ◌};
@@ -12,7 +14,7 @@ ghost use Rattle.shares.specs.Products.{change_times, largest_in, named_of};
 use words::smaller;
 
 // Whether any share is not zero, and then the block, 0 the earlier and 1 the later, and the coefficient with the largest.
-#[derive(Drop)]
+#[derive(Clone, Copy)]
 pub struct Named {
     pub any: bool,
     pub block: u32,
@@ -20,7 +22,7 @@ pub struct Named {
 }
 
 // A coefficient of a block, and the size of its change times that of K, which decides within the block: W is the same for all of it.
-#[derive(Drop)]
+#[derive(Clone, Copy)]
 pub struct Largest {
     pub coefficient: usize,
     pub product: u64,

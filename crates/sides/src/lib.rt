@@ -1,6 +1,8 @@
 // The folded kernel of each length from 24 on, at the places that are not the middle of their three, each table a function whose contract is its definition.
 // SIDE_N_C_E has the inputs 3j + C and the outputs 3k + E, h = N/6 of each: entry j × h + k is F(3k + E, 3j + C) + 2^26, and behind them entry h² + k is the sum over j.
 // No function here is a public call: the bodies for each length in `block_sums` lend them.
+#![tactic(auto)]
+
 ghost use Rattle.std.specs.Prelude.{◌≡◌};
 ghost use Rattle.sides.specs.SideLists.{side_list};
 

@@ -1,6 +1,8 @@
 // The short route's analysis of one block of a length at which it is offered, valid by its requires. Definitions are in specs/.
 // No function here is a public call: the bodies of `analysis` and those of `double_route` call the leaves, after every check of the public calls, and `checks`
 // asks `is_offered`.
+#![tactic(auto)]
+
 mod block;
 pub mod parts;
 pub mod thirds;

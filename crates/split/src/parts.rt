@@ -11,7 +11,7 @@ ghost use Rattle.split.specs.PartLaws.{Given, Third, Inputs, Parts, Abreast, Roo
 use transform::sums::{lift, lower, product};
 
 // A sum of each of three parts.
-#[derive(Drop)]
+#[derive(Clone, Copy)]
 struct Triple {
     a: i64,
     b: i64,

@@ -1,6 +1,8 @@
 // The public calls on a stream that its caller keeps in a state, an array of whole numbers: N, the expected number, the expected shape and then the tail. So a
 // stream crosses to C, and a step copies no tail. Their checks and refusals, and nothing else; `filter_bank` hands them on.
 // None has a requires: any numbers and any lengths may be handed in.
+#![tactic(auto)]
+
 ghost use Rattle.std.specs.Prelude.{◌≡◌, length, pos};
 ghost use Rattle.arithmetic.specs.Lists.{table};
 ghost use Rattle.state_calls.specs.States.{entries, number_in, shape_in, stream_in, admit_code, fresh_code, fresh_state, step_code, step_state, step_out};

@@ -1,5 +1,7 @@
 // The search for the coarsest step that passes (document 02, P13), as a value that a caller carries from trial to trial: what is tried next, whether to go on, and
 // what is answered. What a trial is, the caller knows. No function here is a public call: `coarsest` calls them, and a test program with a stand-in for a trial.
+#![tactic(auto)]
+
 ghost use Rattle.std.specs.Prelude.{◌≡◌, ◌≤◌, ◌<◌};
 ghost use Rattle.step_search.specs.Search.{sure};
 ghost use Rattle.step_search.specs.Progress.{begun, unfinished, behind, stopped, ended};
@@ -8,7 +10,7 @@ ghost use Rattle.step_search.specs.Progress.{begun, unfinished, behind, stopped,
 const TOP: u32 = 1024;
 
 // A search under way: the sure step, the step that is tried next, the trials made, and how many more may be made.
-#[derive(Drop)]
+#[derive(Clone, Copy)]
 pub struct Search {
     pub least: u32,
     pub step: u32,
@@ -17,7 +19,7 @@ pub struct Search {
 }
 
 // What a search answers: the step, the trials made, and how many untried steps lie above the step.
-#[derive(Drop)]
+#[derive(Clone, Copy)]
 pub struct Found {
     pub step: u32,
     pub trials: u32,

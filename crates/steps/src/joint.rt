@@ -4,7 +4,7 @@ ghost use Rattle.steps.specs.Table.{refused as Table·refused};
 ghost use Rattle.steps.specs.Pass.{joint_fault, closing_fault};
 
 // What a table is: 9, 10 or 11 with a line counted from 1, or 0 with line 0. A table that ends too early is 10 with line 0.
-#[derive(Drop)]
+#[derive(Clone, Copy)]
 pub struct Verdict {
     pub code: u32,
     pub line: usize,

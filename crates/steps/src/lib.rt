@@ -1,4 +1,6 @@
 // Step tables that customers edit: the verdict on a table's bytes, and the steps that a table gives.
+#![tactic(auto)]
+
 mod joint;
 mod row;
 
@@ -79,7 +81,7 @@ fn pass(table: &[u8], m: usize, steps: &mut [u32]) -> Verdict
 
 // A table that was read: 9, 10 or 11 with the line at fault, or 0 with line 0 for one that is taken, and then the step of each place. Of bytes that are turned away nothing
 // is said of the steps.
-#[derive(Drop)]
+#[derive(Clone, Copy)]
 pub struct TableRead {
     pub code: u32,
     pub line: usize,

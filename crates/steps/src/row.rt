@@ -10,7 +10,7 @@ use text::number::{is_number, value};
 const DIGITS: usize = 5;
 
 // A line: whether it is one, and its numbers; all are 0 where it is none.
-#[derive(Drop)]
+#[derive(Clone, Copy)]
 pub struct Line {
     pub ok: bool,
     pub first: usize,
@@ -19,7 +19,7 @@ pub struct Line {
 }
 
 // Whether a line has three fields, and where its commas are.
-#[derive(Drop)]
+#[derive(Clone, Copy)]
 pub struct Cuts {
     pub ok: bool,
     pub a: usize,

@@ -1,5 +1,7 @@
 // The synthesis stream: a fresh one, and the leaves of a step on valid input: the hop and the new tail, from V.
 // No function here is a public call: `synthesis` calls `settle`, the public calls and `listing` call `fresh`, after every check.
+#![tactic(auto)]
+
 ghost use Rattle.std.specs.Prelude.{◌≡◌, ◌++◌, ◌+◌, ◌*◌, ◌/◌, ◌^◌, ◌≤◌, T, length, drop, nat_abs, ◌+ℤ◌};
 ghost use Rattle.arithmetic.specs.Rounding.{rnd, clamp};
 ghost use Rattle.arithmetic.specs.Lists.{at, table};
@@ -14,7 +16,7 @@ pub const STORAGE: usize = 108;
 
 // A stream, document 01's term: the block length N, the number of the block that it expects (document 02, P6; 2^32 for none, behind the last number of 32
 // bits), the shape of the joint that it ends with (P7), and a tail of M whole numbers. Storage from M on is zero when fresh, and kept.
-#[derive(Drop)]
+#[derive(Clone, Copy)]
 pub struct Stream {
     pub n: usize,
     pub expected: u64,

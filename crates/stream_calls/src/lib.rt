@@ -1,6 +1,8 @@
 // The public calls on streams as values: their checks and refusals, in the documents' order, and nothing else. `filter_bank` hands
 // them on. None has a requires: any numbers and any buffer lengths may be handed in.
 // `step_tail` is no public call: it is the step that `step` and the calls on states share.
+#![tactic(auto)]
+
 ghost use Rattle.std.specs.Prelude.{◌≡◌, length};
 ghost use Rattle.stream.specs.Synthesis.{storage};
 ghost use Rattle.stream_calls.specs.Streams.{fresh, sound, fits, admit_code, step_code, step, step_out, stream_of};
@@ -8,14 +10,14 @@ ghost use Rattle.stream_calls.specs.Streams.{fresh, sound, fits, admit_code, ste
 use stream::Stream;
 
 // What `fresh` answers: a number, and the stream that was made where it is 0.
-#[derive(Drop)]
+#[derive(Clone, Copy)]
 pub struct Made {
     pub code: u32,
     pub stream: Stream,
 }
 
 // What `step` answers: a number, and the stream to go on with.
-#[derive(Drop)]
+#[derive(Clone, Copy)]
 pub struct Stepped {
     pub code: u32,
     pub stream: Stream,

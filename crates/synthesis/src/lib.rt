@@ -1,5 +1,7 @@
 // One step of a stream on valid input, in place and by value, a body for each length.
 // No function here is a public call: `recording`, `listing` and the public calls over streams call them, under their requires, after every check.
+#![tactic(auto)]
+
 mod inverse;
 
 ghost use Rattle.std.specs.Prelude.{◌≡◌, ◌/◌, ◌^◌, ◌<◌, T, length};

@@ -1,4 +1,6 @@
 // The program step-table on bytes: `report` takes any bytes, and what it writes is the definition of specs/Report.
+#![tactic(auto)]
+
 mod print;
 
 ghost use Rattle.std.specs.Prelude.{◌≡◌, ◌+◌, ◌/◌, ◌≤◌, T, length};

@@ -2,6 +2,8 @@
 // up to N = 72 those of a long one also by a call of their own, for which the compiler knows the numbers.
 // Entry j × M + k of ROWS_N is F(k,j) + 2^26, which is never negative, and entry k of BASE_N the sum over j of F(k,j).
 // From 24 on a length's sums are made of its third's kernel and of the tables of `sides`.
+#![tactic(auto)]
+
 pub mod thirds;
 
 ghost use Rattle.std.specs.Prelude.{◌≡◌};

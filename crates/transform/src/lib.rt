@@ -1,5 +1,7 @@
 // One block of a tabled length, valid by its requires: window, fold, direct analysis, inverse. Definitions are in specs/.
 // No function here is a public call: the bodies for each length in `analysis`, `synthesis` and `block_sums` call them, and `split` the sums.
+#![tactic(auto)]
+
 pub mod fold;
 pub mod sums;
 pub mod thirds;

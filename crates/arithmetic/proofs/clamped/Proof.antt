@@ -38,16 +38,16 @@ module _ (c : tie.Start) where
   high_fits : SFits w32 (pos e -ℤ pos 1)
   high_fits = simp bounds (omega (arith, few))
 
-mul_edge : tie.Need-overflow-mul-edge
+mul_edge : tie.Need-overflow_mul-edge
 mul_edge c = omega (arith, few c)
 
-cast_edge : tie.Need-overflow-cast-edge
+cast_edge : tie.Need-overflow_cast-edge
 cast_edge c = let h = few c in search rules
 
-sub_limited : tie.Need-overflow-sub-limited
+sub_limited : tie.Need-overflow_sub-edge
 sub_limited c = rw (edge-is c, low-is c) (low_fits c)
 
-sub_limited_2 : tie.Need-overflow-sub-limited-2
+sub_limited_2 : tie.Need-overflow_sub-edge-2
 sub_limited_2 c = rw (edge-is c) (high_fits c)
 
 limited_requires : tie.Need-limited-requires
@@ -60,9 +60,9 @@ module _ (c : tie.After-limited) where
 
   limited-is : to_z w32 (of_z w32 c.limited.result) ≡ limited (neg_ℤ (pos (e s))) (pos (e s) -ℤ pos 1) s.args.b
   limited-is =
-      to_z-of_z {w = w32} (record { sfits = c.limited.type-inv })
+      to_z-of_z {w = w32} (record { sfits = c.limited.type_inv })
       ∙ c.limited.ensures
-      ∙ rw (to_z-of_z s.fits.b, edge-is s, low-is s, to_z-of_z (low_fits s), to_z-of_z (high_fits s))
+      ∙ rw (to_z-of_z s.ranges.b, edge-is s, low-is s, to_z-of_z (low_fits s), to_z-of_z (high_fits s))
 
   edge : e s ≡ 32768 * s.args.m
   edge = omega arith
@@ -76,7 +76,7 @@ returns : tie.Need-returns
 returns c =
     let l = c.before in
     let s = l.before in
-    to_z-of_z {w = w16} (record { sfits = c.quotient.type-inv })
+    to_z-of_z {w = w16} (record { sfits = c.quotient.type_inv })
     ∙ c.quotient.ensures
     ∙ ap (λ (z : ℤ). floor z s.args.m) (limited-is l)
     ∙ floor-limited s.args.b (some s) (edge l)

@@ -8,11 +8,11 @@ use Rattle.arithmetic.proofs.over.Tie as tie
 reciprocal_requires : tie.Need-reciprocal-requires
 reciprocal_requires c κs = search rules
 
-mul_result : tie.Need-overflow-mul-result
+mul_result : tie.Need-overflow_mul-result
 mul_result c = let s = c.before in rw c.reciprocal.ensures (omega (arith, over_fits s.args.m s.requires.0 s.args.r s.requires.1))
 
 -- The product is below 2^64, so its upper word is below 2^32.
-cast_result : tie.Need-overflow-cast-result
+cast_result : tie.Need-overflow_cast-result-2
 cast_result c = let s = c.before in rw c.reciprocal.ensures (omega (arith, over_fits s.args.m s.requires.0 s.args.r s.requires.1))
 
 returns : tie.Need-returns

@@ -20,24 +20,24 @@ module _ (s : tie.Start) where
   m = s.args.m
 
   some : 0 < m
-  some = (quarters-few m s.pre.0).0
+  some = (quarters-few m s.requires.0).0
 
   few : m ≤ 54
-  few = (quarters-few m s.pre.0).1
+  few = (quarters-few m s.requires.0).1
 
   -- the raised number
   abbrev r : ℕ
   r = raise s.args.c (32768 * m)
 
   r-less : r < 2 * (32768 * m)
-  r-less = raise-less s.args.c (32768 * m) s.pre.1 s.pre.2
+  r-less = raise-less s.args.c (32768 * m) s.requires.1 s.requires.2
 
   r-fits : SFits w32 (pos r)
   r-fits = record { sfits = omega (arith, r-less, few) }
 
   -- as the machine has it
   sum_is : to_z w32 (of_z w32 s.args.c) +ℤ to_z w32 (32768 * m) ≡ pos r
-  sum_is = rw (to_z-of_z s.fits.c, to_z_pos w32 {n = 32768 * m} (omega (arith, few))) (raise-is s.args.c (32768 * m) s.pre.1)
+  sum_is = rw (to_z-of_z s.ranges.c, to_z_pos w32 {n = 32768 * m} (omega (arith, few))) (raise-is s.args.c (32768 * m) s.requires.1)
 
   raised_is : to_z w32 (of_z w32 (to_z w32 (of_z w32 s.args.c) +ℤ to_z w32 (32768 * m))) ≡ pos r
   raised_is = rw sum_is (to_z-of_z r-fits)
@@ -55,32 +55,32 @@ module _ (s : tie.Start) where
   result_fits : {w : Width} → 15 ≤ hbits w → SFits w (pos d -ℤ pos 32768)
   result_fits h = simp bounds (omega (arith, d-less, pow_mono h))
 
-mul_raised : tie.Need-overflow-mul-raised
+mul_raised : tie.Need-overflow_mul-raised
 mul_raised c = omega (arith, few c)
 
-cast_raised : tie.Need-overflow-cast-raised
+cast_raised : tie.Need-overflow_cast-raised
 cast_raised c = record { sfits = omega (arith, few c) }
 
-add_raised : tie.Need-overflow-add-raised
+add_raised : tie.Need-overflow_add-raised
 add_raised c = rw (sum_is c) (r-fits c)
 
-cast_over : tie.Need-overflow-cast-over
+cast_over : tie.Need-overflow_cast-raised-2
 cast_over c = rw (raised_is c) (tt, record { fits = omega (arith, r-less c, few c) })
 
-over_requires : tie.Need-over-requires
+over_requires : tie.Need-over-d-requires
 over_requires c κs = rw (raised_is c) (c.requires.0, omega (arith, r-less c))
 
 -- what `over` gave
-given : (c : tie.After-over) → c.over.result ≡ d c.before
-given c = rw (raised_is c.before) at c.over.ensures
+given : (c : tie.After-over-d) → c.over-d.result ≡ d c.before
+given c = rw (raised_is c.before) at c.over-d.ensures
 
-cast_result : tie.Need-overflow-cast-result
+cast_result : tie.Need-overflow_cast-result
 cast_result c = rw (given c) (record { sfits = omega (arith, d-less c.before) })
 
-sub_result : tie.Need-overflow-sub-result
+sub_result : tie.Need-overflow_sub-result
 sub_result c = rw (given c, d_is c.before) (result_fits c.before (lit≤ tt))
 
-cast_result_2 : tie.Need-overflow-cast-result-2
+cast_result_2 : tie.Need-overflow_cast-result-2
 cast_result_2 c = let s = c.before in rw (given c, d_is s, to_z-of_z (result_fits s {w = w32} (lit≤ tt))) (result_fits s (lit≤ tt))
 
 returns : tie.Need-returns

@@ -57,21 +57,21 @@ tilt_requires c κs = search rules
 
 -- what `tilt` gave, as the machine has it
 tilt_is : (c : tie.After-tilt) → to_z w64 (of_z w64 c.tilt.result) ≡ under (a c.before)
-tilt_is c = to_z-of_z {w = w64} {z = c.tilt.result} (record { sfits = c.tilt.type-inv }) ∙ c.tilt.ensures ∙ ap under (to_z-of_z c.before.ranges.a)
+tilt_is c = to_z-of_z {w = w64} {z = c.tilt.result} (record { sfits = c.tilt.type_inv }) ∙ c.tilt.ensures ∙ ap under (to_z-of_z c.before.ranges.a)
 
-add_shifted : tie.Need-overflow-add-shifted
+add_shifted : tie.Need-overflow_add-a
 add_shifted c = rw (tilt_is c, to_z-of_z c.before.ranges.a) (tilted-fits c.before)
 
-sub_shifted : tie.Need-overflow-sub-shifted
+sub_shifted : tie.Need-overflow_sub-k
 sub_shifted c = search rules
 
-cast_shifted : tie.Need-overflow-cast-shifted
+cast_shifted : tie.Need-overflow_cast-k
 cast_shifted c = search rules
 
-shl_shifted : tie.Need-overflow-shl-shifted
+shl_shifted : tie.Need-overflow_shl-k
 shl_shifted c = search rules
 
-add_shifted_2 : tie.Need-overflow-add-shifted-2
+add_shifted_2 : tie.Need-overflow_add-a-2
 add_shifted_2 c = let s = c.before in rw (tilt_is c, to_z-of_z s.ranges.a, to_z-of_z (tilted-fits s), half_is s) (sum_fits s)
 
 shifted_requires : tie.Need-shifted-requires

@@ -60,24 +60,24 @@ module _ (c : tie.After-tilt) where
   s₀ = c.before
 
   tilt_is : to_z w64 (of_z w64 c.tilt.result) ≡ under (a s₀)
-  tilt_is = to_z-of_z {w = w64} {z = c.tilt.result} (record { sfits = c.tilt.type-inv }) ∙ c.tilt.ensures ∙ ap under (to_z-of_z s₀.fits.a)
+  tilt_is = to_z-of_z {w = w64} {z = c.tilt.result} (record { sfits = c.tilt.type_inv }) ∙ c.tilt.ensures ∙ ap under (to_z-of_z s₀.ranges.a)
 
   tilted-is : to_z w64 (of_z w64 (to_z w64 (of_z w64 (a s₀)) +ℤ to_z w64 (of_z w64 c.tilt.result))) ≡ tilted s₀
-  tilted-is = rw (tilt_is, to_z-of_z s₀.fits.a) (to_z-of_z (tilted-fits s₀))
+  tilted-is = rw (tilt_is, to_z-of_z s₀.ranges.a) (to_z-of_z (tilted-fits s₀))
 
   b_is : to_z w64 (of_z w64 (to_z w64 (of_z w64 (to_z w64 (of_z w64 (a s₀)) +ℤ to_z w64 (of_z w64 c.tilt.result))) +ℤ to_z w64 (half s₀))) ≡ b s₀
   b_is = rw (tilted-is, half_is s₀) (to_z-of_z (b-fits s₀))
 
-add_upper : tie.Need-overflow-add-upper
+add_upper : tie.Need-overflow_add-a
 add_upper c = rw (tilt_is c, to_z-of_z c.before.ranges.a) (tilted-fits c.before)
 
-mul_upper : tie.Need-overflow-mul-upper
+mul_upper : tie.Need-overflow_mul-n
 mul_upper c = omega (arith, few c.before)
 
-cast_upper : tie.Need-overflow-cast-upper
+cast_upper : tie.Need-overflow_cast-n
 cast_upper c = record { sfits = omega (arith, few c.before) }
 
-add_upper_2 : tie.Need-overflow-add-upper-2
+add_upper_2 : tie.Need-overflow_add-a-2
 add_upper_2 c = rw (tilted-is c, half_is c.before) (b-fits c.before)
 
 upper_requires : tie.Need-upper-requires
@@ -90,9 +90,9 @@ returns : tie.Need-returns
 returns c =
     let u = c.before in
     let s = u.before.before in
-    to_z-of_z {w = w16} (record { sfits = c.clamped.type-inv })
+    to_z-of_z {w = w16} (record { sfits = c.clamped.type_inv })
     ∙ c.clamped.ensures
-    ∙ ap (λ (z : ℤ). clamp (floor z (n s / 4))) (to_z-of_z {w = w32} (record { sfits = u.upper.type-inv }) ∙ u.upper.ensures ∙ ap (λ (z : ℤ). floor z (2 ^ 32)) (b_is u.before))
+    ∙ ap (λ (z : ℤ). clamp (floor z (n s / 4))) (to_z-of_z {w = w32} (record { sfits = u.upper.type_inv }) ∙ u.upper.ensures ∙ ap (λ (z : ℤ). floor z (2 ^ 32)) (b_is u.before))
     ∙ ap clamp (parts s)
 
 pub sample_spec : {M : Type 1} → statement M

@@ -23,12 +23,12 @@ above : (v : ℤ) → lt_z v (pos 0) ≡ false → T (non_neg v)
 above (pos n) h = tt
 above (negsuc n) h = absurd (omega (arith, simp ints at (lt_z-false (negsuc n) (pos 0) h)))
 
-module _ (c : tie.Then1) where
+module _ (c : tie.Then-v-lt0) where
   abbrev v : ℤ
   v = c.before.args.v
 
   negative : lt_z v (pos 0) ≡ true
-  negative = rw (to_z-of_z c.before.ranges.v) at c.if1.true
+  negative = rw (to_z-of_z c.before.ranges.v) at c.if-v-lt0.true
 
   next_fits : SFits w64 (v +ℤ pos 1)
   next_fits =
@@ -43,27 +43,27 @@ module _ (c : tie.Then1) where
   is : to_z w64 (of_z w64 (pos 0 -ℤ to_z w64 (of_z w64 (to_z w64 (of_z w64 v) +ℤ pos 1)))) ≡ pos (mag v)
   is = rw (to_z-of_z c.before.ranges.v, to_z-of_z next_fits, (below v negative).0) (to_z-of_z mag-fits)
 
-add_below : tie.Need-overflow-add-below
+add_below : tie.Need-overflow_add-below
 add_below c = rw (to_z-of_z c.before.ranges.v) (next_fits c)
 
-sub_below : tie.Need-overflow-sub-below
+sub_below : tie.Need-overflow_sub-below
 sub_below c = rw (to_z-of_z c.before.ranges.v, to_z-of_z (next_fits c), (below (v c) (negative c)).0) (mag-fits c)
 
-cast_result : tie.Need-overflow-cast-result
+cast_result : tie.Need-overflow_cast-result
 cast_result c = rw (is c) (tt, record { fits = omega (arith, c.before.ranges.v.sfits) })
 
-add_result : tie.Need-overflow-add-result
+add_result : tie.Need-overflow_add-result
 add_result c = rw (is c) (record { fits = omega (arith, c.before.ranges.v.sfits) })
 
-returns : tie.Need-returns
+returns : tie.Need-returns-then-v-lt0
 returns c = rw (is c) (sym (below (v c) (negative c)).1)
 
-cast_result_2 : tie.Need-overflow-cast-result-2
+cast_result_2 : tie.Need-overflow_cast-result-2
 cast_result_2 c =
     let f = c.before.ranges.v in
-    rw (to_z-of_z f) (above c.before.args.v (rw (to_z-of_z f) at c.if1.false), record { fits = omega (arith, abs_sfits f) })
+    rw (to_z-of_z f) (above c.before.args.v (rw (to_z-of_z f) at c.if-v-lt0.false), record { fits = omega (arith, abs_sfits f) })
 
-returns_2 : tie.Need-returns-2
+returns_2 : tie.Need-returns
 returns_2 c = rw (to_z-of_z c.before.ranges.v)
 
 pub size_spec : {M : Type 1} → statement M

@@ -19,7 +19,7 @@ module _ (c : tie.Start) where
   fits : SFits w32 (shr_z c.args.a (2 ^ 32))
   fits = shr_upper c.args.a c.ranges.a
 
-cast_result : tie.Need-overflow-cast-result
+cast_result : tie.Need-overflow_cast-result
 cast_result c = rw (shr_is c) (fits c)
 
 returns : tie.Need-returns

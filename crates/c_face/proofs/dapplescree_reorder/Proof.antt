@@ -3,20 +3,20 @@ use borrow.Author.Rules.{rules}
 use Rattle.c_face.proofs.dapplescree_reorder.Statement.{statement}
 use Rattle.c_face.proofs.dapplescree_reorder.Tie as tie
 
-numbered_requires : tie.Need-numbered-requires
+numbered_requires : tie.Need-numbered-by-requires
 numbered_requires c κs = search rules
 
-hops_in_requires : tie.Need-hops-in-requires
+hops_in_requires : tie.Need-hops_in-count-requires
 hops_in_requires c κs = search rules
 
 reorder_requires : tie.Need-reorder-requires
 reorder_requires c κs = search rules
 
-same_length : tie.Need-same-length
+same_length : tie.Need-shape_of-reordered
 same_length c = search rules
 
 returns : tie.Need-returns
-returns c = rw (c.before.before.before.before.numbered.ensures, c.before.before.before.hops-in.ensures) at c.before.reorder.ensures
+returns c = rw (c.before.before.before.before.numbered-by.ensures, c.before.before.before.hops_in-count.ensures) at c.before.reorder.ensures
 
 pub dapplescree_reorder_spec : {M : Type 1} → statement M
 dapplescree_reorder_spec =

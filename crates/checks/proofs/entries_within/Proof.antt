@@ -16,49 +16,49 @@ use Rattle.checks.proofs.entries_within.Tie as tie
 abbrev test : List ℤ → ℕ → ℕ → Bool
 test tail limit i = within (at tail i) limit
 
-abbrev invariant-loop : tie.invariant-loop
+abbrev invariant-loop : tie.invariant-loop-i
 invariant-loop tail from to limit all₀ i₀ passed i = (from ≤ i) × (i ≤ to) × (passed ≡ between from i (test tail limit))
 
-abbrev decreases-loop : tie.decreases-loop
+abbrev decreases-loop : tie.decreases-loop-i
 decreases-loop tail from to limit all₀ i₀ passed i = to - i
 
-loop-holds : tie.Need-loop-init invariant-loop decreases-loop
+loop-holds : tie.Need-loop-i-init invariant-loop decreases-loop
 loop-holds c = (omega arith, omega arith, sym (between_none (test c.args.tail.now c.args.limit) c.args.from))
 
-mul_is_within : tie.Need-overflow-mul-is-within invariant-loop decreases-loop
+mul_is_within : tie.Need-offset_bounds-tail-i invariant-loop decreases-loop
 mul_is_within c = omega arith
 
-shared_slice_copy_out_is_within : tie.Need-shared-slice-copy-out-is-within invariant-loop decreases-loop
+shared_slice_copy_out_is_within : tie.Need-bounds-tail-i invariant-loop decreases-loop
 shared_slice_copy_out_is_within c = omega arith
 
-is_within_requires : tie.Need-is-within-requires invariant-loop decreases-loop
+is_within_requires : tie.Need-is_within-all-requires invariant-loop decreases-loop
 is_within_requires c κs = omega arith
 
 -- the test of entry i is what `is_within` said
-said : (c : tie.After-is-within invariant-loop decreases-loop) → let l = c.before.before.before in test l.before.args.tail.now l.before.args.limit l.loop.i ≡ c.is_Within.result
+said : (c : tie.After-is_within-all invariant-loop decreases-loop) → let l = c.before.before.before in test l.before.args.tail.now l.before.args.limit l.loop-i.i ≡ c.is_within-all.result
 said c =
     let l = c.before.before.before in
-    let z = at l.before.args.tail.now l.loop.i in
-    sym (c.is_Within.ensures ∙ rw (to_z-of_z {w = w64} {z = z} (record { sfits = c.before.is-within-arg.given })))
+    let z = at l.before.args.tail.now l.loop-i.i in
+    sym (c.is_within-all.ensures ∙ rw (to_z-of_z {w = w64} {z = z} (record { sfits = c.before.is_within-arg-1.given })))
 
-add_i : tie.Need-overflow-add-i invariant-loop decreases-loop
+add_i : tie.Need-overflow_step-i invariant-loop decreases-loop
 add_i c = omega arith
 
-loop-less : tie.Need-loop-smaller invariant-loop decreases-loop
+loop-less : tie.Need-loop-i-smaller invariant-loop decreases-loop
 loop-less c = omega arith
 
-loop-again : tie.Need-loop-preserved invariant-loop decreases-loop
+loop-again : tie.Need-loop-i-preserved invariant-loop decreases-loop
 loop-again c =
     let l = c.before.before.before in
     let a = l.before.args in
-    (omega arith, omega arith, between_next (test a.tail.now a.limit) a.from l.loop.i l.loop.invariant.0 l.loop.invariant.2 (said c))
+    (omega arith, omega arith, between_next (test a.tail.now a.limit) a.from l.loop-i.i l.loop-i.invariant.0 l.loop-i.invariant.2 (said c))
 
 returns : tie.Need-returns invariant-loop decreases-loop
 returns c =
     let l = c.before in
     let a = l.before.args in
-    let e : l.loop.i ≡ a.to = omega arith in
-    l.loop.invariant.2 ∙ ap (λ (j : ℕ). between a.from j (test a.tail.now a.limit)) e
+    let e : l.loop-i.i ≡ a.to = omega arith in
+    l.loop-i.invariant.2 ∙ ap (λ (j : ℕ). between a.from j (test a.tail.now a.limit)) e
 
 pub entries_within_spec : {M : Type 1} → statement M
 entries_within_spec =

@@ -13,7 +13,7 @@ use borrow.Author.Rules.{rules}
 use Rattle.checks.proofs.is_within.Statement.{statement}
 use Rattle.checks.proofs.is_within.Tie as tie
 
-cast_most : tie.Need-overflow-cast-most
+cast_most : tie.Need-overflow_cast-most
 cast_most c = search rules
 
 -- the limit, and its negative, as the machine has them
@@ -27,24 +27,24 @@ module _ (c : tie.Start) where
   least_fits : SFits w64 (neg_ℤ (pos c.args.limit))
   least_fits = sfits_abs (neg_ℤ (pos c.args.limit)) (rw (abs_neg (pos c.args.limit)) (omega arith))
 
-sub_if1 : tie.Need-overflow-sub-if1
+sub_if1 : tie.Need-overflow_sub-most
 sub_if1 c = rw (least_is c) (least_fits c)
 
-returns : tie.Need-returns
+returns : tie.Need-returns-then-v-most
 unfolding within
 returns c =
     let s = c.before in
     let l = neg_ℤ (pos s.args.limit) in
-    let e : lt_z s.args.v l ≡ true = rw (to_z-of_z s.ranges.v, least_is s, to_z-of_z (least_fits s)) at c.if1.true in
+    let e : lt_z s.args.v l ≡ true = rw (to_z-of_z s.ranges.v, least_is s, to_z-of_z (least_fits s)) at c.if-v-most.true in
     let f : le_z l s.args.v ≡ false = lt_z-not s.args.v l e in
     rw f
 
-returns_2 : tie.Need-returns-2
+returns_2 : tie.Need-returns
 unfolding within
 returns_2 c =
     let s = c.before in
     let l = neg_ℤ (pos s.args.limit) in
-    let e : lt_z s.args.v l ≡ false = rw (to_z-of_z s.ranges.v, least_is s, to_z-of_z (least_fits s)) at c.if1.false in
+    let e : lt_z s.args.v l ≡ false = rw (to_z-of_z s.ranges.v, least_is s, to_z-of_z (least_fits s)) at c.if-v-most.false in
     let f : le_z l s.args.v ≡ true = le_z-is (lt_z-false s.args.v l e) in
     rw (f, to_z-of_z s.ranges.v, most_is s)
 

@@ -23,61 +23,61 @@ module _ (z : ℤ) (t : ℕ) (ok : mag z < 2 ^ hbits w64) (is : z ≡ first_quar
   negated_fits : SFits w64 (neg_ℤ (first_quarter t))
   negated_fits = sfits_abs (neg_ℤ (first_quarter t)) (rw (abs_neg (first_quarter t)) (omega (arith, size t p)))
 
-first_quarter_requires : tie.Need-first-quarter-requires
+first_quarter_requires : tie.Need-first_quarter-requires
 first_quarter_requires c κs = search rules
 
-returns : tie.Need-returns
-returns c = to_z-of_z (record { sfits = c.first-quarter.type-inv }) ∙ c.first-quarter.ensures ∙ sym (C_quarter_1 c.before.before.args.t (omega arith))
+returns : tie.Need-returns-then-r-le-QUARTER
+returns c = to_z-of_z {w = w64} (record { sfits = c.first_quarter.type_inv }) ∙ c.first_quarter.ensures ∙ sym (C_quarter_1 c.before.before.args.t (omega arith))
 
-first_quarter_requires_2 : tie.Need-first-quarter-requires-2
+first_quarter_requires_2 : tie.Need-first_quarter-requires-then-r-le-HALF_TURN
 first_quarter_requires_2 c κs = search rules
 
-sub_result : tie.Need-overflow-sub-result
+sub_result : tie.Need-overflow_sub-result
 sub_result c =
     let r : ℕ = half_turn - c.before.before.before.args.t % turn in
-    let a = c.first-quarter2 in
-    rw (negated a.result r a.type-inv a.ensures (omega arith)) (negated_fits a.result r a.type-inv a.ensures (omega arith))
+    let a = c.first_quarter-then-r-le-HALF_TURN in
+    rw (negated a.result r a.type_inv a.ensures (omega arith)) (negated_fits a.result r a.type_inv a.ensures (omega arith))
 
-returns_2 : tie.Need-returns-2
+returns_2 : tie.Need-returns-then-r-le-HALF_TURN
 returns_2 c =
     let t : ℕ = c.before.before.before.args.t in
     let r : ℕ = half_turn - t % turn in
-    let a = c.first-quarter2 in
-    rw (negated a.result r a.type-inv a.ensures (omega arith)) (to_z-of_z (negated_fits a.result r a.type-inv a.ensures (omega arith)))
+    let a = c.first_quarter-then-r-le-HALF_TURN in
+    rw (negated a.result r a.type_inv a.ensures (omega arith)) (to_z-of_z (negated_fits a.result r a.type_inv a.ensures (omega arith)))
     ∙ sym (C_quarter_2 t (omega arith) (omega arith))
 
-add_if3 : tie.Need-overflow-add-if3
+add_if3 : tie.Need-overflow_add-t-7
 add_if3 c = search rules
 
-sub_first_quarter : tie.Need-overflow-sub-first-quarter
+sub_first_quarter : tie.Need-overflow_sub-r-then-r
 sub_first_quarter c = search rules
 
-first_quarter_requires_3 : tie.Need-first-quarter-requires-3
+first_quarter_requires_3 : tie.Need-first_quarter-requires-then-r
 first_quarter_requires_3 c κs = search rules
 
-sub_result_2 : tie.Need-overflow-sub-result-2
+sub_result_2 : tie.Need-overflow_sub-result-then-r
 sub_result_2 c =
     let r : ℕ = c.before.before.before.before.args.t % turn - half_turn in
-    let a = c.first-quarter3 in
-    rw (negated a.result r a.type-inv a.ensures (omega arith)) (negated_fits a.result r a.type-inv a.ensures (omega arith))
+    let a = c.first_quarter-then-r in
+    rw (negated a.result r a.type_inv a.ensures (omega arith)) (negated_fits a.result r a.type_inv a.ensures (omega arith))
 
-returns_3 : tie.Need-returns-3
+returns_3 : tie.Need-returns-then-r
 returns_3 c =
     let t : ℕ = c.before.before.before.before.args.t in
     let r : ℕ = t % turn - half_turn in
-    let a = c.first-quarter3 in
-    rw (negated a.result r a.type-inv a.ensures (omega arith)) (to_z-of_z (negated_fits a.result r a.type-inv a.ensures (omega arith)))
+    let a = c.first_quarter-then-r in
+    rw (negated a.result r a.type_inv a.ensures (omega arith)) (to_z-of_z (negated_fits a.result r a.type_inv a.ensures (omega arith)))
     ∙ sym (C_quarter_3 t (omega arith) (omega arith))
 
-sub_first_quarter_2 : tie.Need-overflow-sub-first-quarter-2
+sub_first_quarter_2 : tie.Need-overflow_sub-r-2
 sub_first_quarter_2 c = search rules
 
-first_quarter_requires_4 : tie.Need-first-quarter-requires-4
+first_quarter_requires_4 : tie.Need-first_quarter-requires-2
 first_quarter_requires_4 c κs = search rules
 
-returns_4 : tie.Need-returns-4
+returns_4 : tie.Need-returns
 returns_4 c =
-    to_z-of_z (record { sfits = c.first-quarter4.type-inv }) ∙ c.first-quarter4.ensures ∙ sym (C_quarter_4 c.before.before.before.before.args.t (omega arith))
+    to_z-of_z {w = w64} (record { sfits = c.first_quarter-2.type_inv }) ∙ c.first_quarter-2.ensures ∙ sym (C_quarter_4 c.before.before.before.before.args.t (omega arith))
 
 pub cosine_spec : {M : Type 1} → statement M
 cosine_spec =

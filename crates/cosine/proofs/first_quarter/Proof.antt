@@ -10,19 +10,19 @@ use Rattle.cosine.specs.TableLaws.{series_rule}
 use Rattle.cosine.proofs.first_quarter.Statement.{statement}
 use Rattle.cosine.proofs.first_quarter.Tie as tie
 
-mul_result : tie.Need-overflow-mul-result
+mul_result : tie.Need-offset_bounds-cos-t
 mul_result c = search rules
 
-element_copy_out_result : tie.Need-element-copy-out-result
+element_copy_out_result : tie.Need-bounds-cos-t
 element_copy_out_result c = search rules
 
-cast_result : tie.Need-overflow-cast-result
-cast_result c = rw (to_z-of_z {w = w32} (record { sfits = c.result.given })) (sfits_widen {w = w32} {w' = w64} tt (record { sfits = c.result.given }))
+cast_result : tie.Need-overflow_cast-result
+cast_result c = rw (to_z-of_z {w = w32} (record { sfits = c.result-1.given })) (sfits_widen {w = w32} {w' = w64} tt (record { sfits = c.result-1.given }))
 
 returns : tie.Need-returns
 returns c =
     let s = c.before in
-    rw (to_z-of_z {w = w32} (record { sfits = c.result.given }), to_z-of_z {w = w64} (sfits_widen {w = w32} {w' = w64} tt (record { sfits = c.result.given })))
+    rw (to_z-of_z {w = w32} (record { sfits = c.result-1.given }), to_z-of_z {w = w64} (sfits_widen {w = w32} {w' = w64} tt (record { sfits = c.result-1.given })))
     (ap (λ (l : List ℤ). at l s.args.t) s.requires.0 ∙ sym (series_rule s.args.t s.requires.1))
 
 pub first_quarter_spec : {M : Type 1} → statement M

@@ -8,35 +8,35 @@ use Rattle.cosine.specs.Kernels.{tabled, lengths}
 use Rattle.cosine.proofs.is_tabled.Statement.{statement}
 use Rattle.cosine.proofs.is_tabled.Tie as tie
 
-returns : tie.Need-returns
+returns : tie.Need-returns-then-n-eq12
 unfolding tabled every lengths
-returns c = rw (eq-eqb _ 12 c.if1.true)
+returns c = rw (eq-eqb _ 12 c.if-n-eq12.true)
 
-returns_2 : tie.Need-returns-2
+returns_2 : tie.Need-returns-then-n-eq24
 unfolding tabled every lengths
-returns_2 c = rw (ne_eqb _ 12 c.before.if1.false, eq-eqb _ 24 c.if2.true)
+returns_2 c = rw (ne_eqb _ 12 c.before.if-n-eq12.false, eq-eqb _ 24 c.if-n-eq24.true)
 
-returns_3 : tie.Need-returns-3
+returns_3 : tie.Need-returns-then-n-eq36
 unfolding tabled every lengths
-returns_3 c = rw (ne_eqb _ 12 c.before.before.if1.false, ne_eqb _ 24 c.before.if2.false, eq-eqb _ 36 c.if3.true)
+returns_3 c = rw (ne_eqb _ 12 c.before.before.if-n-eq12.false, ne_eqb _ 24 c.before.if-n-eq24.false, eq-eqb _ 36 c.if-n-eq36.true)
 
-returns_4 : tie.Need-returns-4
+returns_4 : tie.Need-returns-then-n-eq72
 unfolding tabled every lengths
 returns_4 c =
     rw
-    (ne_eqb _ 12 c.before.before.before.if1.false, ne_eqb _ 24 c.before.before.if2.false, ne_eqb _ 36 c.before.if3.false, eq-eqb _ 72 c.if4.true)
+    (ne_eqb _ 12 c.before.before.before.if-n-eq12.false, ne_eqb _ 24 c.before.before.if-n-eq24.false, ne_eqb _ 36 c.before.if-n-eq36.false, eq-eqb _ 72 c.if-n-eq72.true)
 
-returns_5 : tie.Need-returns-5
+returns_5 : tie.Need-returns-then-n-eq108
 unfolding tabled every lengths
 returns_5 c =
     rw
-    (ne_eqb _ 12 c.before.before.before.before.if1.false, ne_eqb _ 24 c.before.before.before.if2.false, ne_eqb _ 36 c.before.before.if3.false, ne_eqb _ 72 c.before.if4.false, eq-eqb _ 108 c.if5.true)
+    (ne_eqb _ 12 c.before.before.before.before.if-n-eq12.false, ne_eqb _ 24 c.before.before.before.if-n-eq24.false, ne_eqb _ 36 c.before.before.if-n-eq36.false, ne_eqb _ 72 c.before.if-n-eq72.false, eq-eqb _ 108 c.if-n-eq108.true)
 
-returns_6 : tie.Need-returns-6
+returns_6 : tie.Need-returns
 unfolding tabled every lengths
 returns_6 c =
     rw
-    (ne_eqb _ 12 c.before.before.before.before.if1.false, ne_eqb _ 24 c.before.before.before.if2.false, ne_eqb _ 36 c.before.before.if3.false, ne_eqb _ 72 c.before.if4.false, ne_eqb _ 108 c.if5.false)
+    (ne_eqb _ 12 c.before.before.before.before.if-n-eq12.false, ne_eqb _ 24 c.before.before.before.if-n-eq24.false, ne_eqb _ 36 c.before.before.if-n-eq36.false, ne_eqb _ 72 c.before.if-n-eq72.false, ne_eqb _ 108 c.if-n-eq108.false)
     (last (eqb c.before.before.before.before.before.args.n 216))
   where
     last : (b : Bool) → b ≡ not (cond (not b) true false)

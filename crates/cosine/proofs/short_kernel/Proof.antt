@@ -1,4 +1,5 @@
 -- `short_kernel` meets its contract: the angle is that of L, and small.
+use mir.Syntax.{w64}
 use mathlib.Core.Path.{◌∙◌}
 use Prim.Native.Nat.{◌≤◌}
 use native.Mathlib.Omega.{arith}
@@ -15,34 +16,34 @@ module _ (c : tie.Start) where
   len = tabled_length c.args.n c.requires.1.0
 
 -- d is at most a quarter
-most : (c : tie.After-parts) → c.parts.result ≤ quarter
-most c = rw c.parts.ensures (d-most c.before.args.n)
+most : (c : tie.After-parts-d) → c.parts-d.result ≤ quarter
+most c = rw c.parts-d.ensures (d-most c.before.args.n)
 
-parts_requires : tie.Need-parts-requires
+parts_requires : tie.Need-parts-d-requires
 parts_requires c κs = search rules
 
-mul_cosine : tie.Need-overflow-mul-cosine
+mul_cosine : tie.Need-overflow_mul-d
 mul_cosine c = omega (arith, (len c.before).most, most c)
 
-mul_cosine_2 : tie.Need-overflow-mul-cosine-2
+mul_cosine_2 : tie.Need-overflow_mul-i
 mul_cosine_2 c = omega (arith, (len c.before).most, most c)
 
-add_cosine : tie.Need-overflow-add-cosine
+add_cosine : tie.Need-overflow_add-i
 add_cosine c = omega (arith, (len c.before).most, most c)
 
-add_cosine_2 : tie.Need-overflow-add-cosine-2
+add_cosine_2 : tie.Need-overflow_add-i-2
 add_cosine_2 c = omega (arith, (len c.before).most, most c)
 
-mul_cosine_3 : tie.Need-overflow-mul-cosine-3
+mul_cosine_3 : tie.Need-overflow_mul-d-2
 mul_cosine_3 c = part-fits _ _ (omega (arith, most c)) (omega (arith, (len c.before).most))
 
-mul_cosine_4 : tie.Need-overflow-mul-cosine-4
+mul_cosine_4 : tie.Need-overflow_mul-k
 mul_cosine_4 c = omega (arith, (len c.before).most, most c)
 
-add_cosine_3 : tie.Need-overflow-add-cosine-3
+add_cosine_3 : tie.Need-overflow_add-k
 add_cosine_3 c = omega (arith, (len c.before).most, most c)
 
-mul_cosine_5 : tie.Need-overflow-mul-cosine-5
+mul_cosine_5 : tie.Need-overflow_mul-d-3
 mul_cosine_5 c = angle-fits _ _ _ (omega (arith, most c)) (omega (arith, (len c.before).most)) (omega (arith, (len c.before).most))
 
 cosine_requires : tie.Need-cosine-requires
@@ -50,7 +51,7 @@ cosine_requires c κs = search rules
 
 returns : tie.Need-returns
 unfolding L
-returns c = to_z-of_z (record { sfits = c.cosine.type-inv }) ∙ (rw c.before.parts.ensures at c.cosine.ensures)
+returns c = to_z-of_z {w = w64} (record { sfits = c.cosine.type_inv }) ∙ (rw c.before.parts-d.ensures at c.cosine.ensures)
 
 pub short_kernel_spec : {M : Type 1} → statement M
 short_kernel_spec =

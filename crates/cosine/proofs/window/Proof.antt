@@ -1,4 +1,5 @@
 -- `window` meets its contract: a turn more does not change C, and d × N is a quarter.
+use mir.Syntax.{w64}
 use mathlib.Core.Path.{◌≡◌, ◌∙◌, ap}
 use Prim.Native.Nat.{ℕ, ◌+◌, ◌-◌, ◌*◌, ◌≤◌}
 use native.Mathlib.Nat.{mul-le-mul_left}
@@ -27,23 +28,23 @@ module _ (c : tie.Start) where
       double : (d n : ℕ) → d * n ≡ quarter → d * (2 * n) ≡ quarter + quarter
       double d n h = omega arith
 
-parts_requires : tie.Need-parts-requires
+parts_requires : tie.Need-parts-d-requires
 parts_requires c κs = search rules
 
-add_cosine : tie.Need-overflow-add-cosine
+add_cosine : tie.Need-overflow_add-cosine
 add_cosine c = search rules
 
-mul_cosine : tie.Need-overflow-mul-cosine
+mul_cosine : tie.Need-overflow_mul-i
 mul_cosine c = omega (arith, (len c.before).most)
 
-add_cosine_2 : tie.Need-overflow-add-cosine-2
+add_cosine_2 : tie.Need-overflow_add-i
 add_cosine_2 c = omega (arith, (len c.before).most)
 
-mul_cosine_2 : tie.Need-overflow-mul-cosine-2
-mul_cosine_2 c = rw c.parts.ensures (omega (arith, angle≤ c.before))
+mul_cosine_2 : tie.Need-overflow_mul-d
+mul_cosine_2 c = rw c.parts-d.ensures (omega (arith, angle≤ c.before))
 
-sub_cosine : tie.Need-overflow-sub-cosine
-sub_cosine c = rw c.parts.ensures (omega (arith, angle≤ c.before))
+sub_cosine : tie.Need-overflow_sub-d
+sub_cosine c = rw c.parts-d.ensures (omega (arith, angle≤ c.before))
 
 cosine_requires : tie.Need-cosine-requires
 cosine_requires c κs = search rules
@@ -54,8 +55,8 @@ returns c =
     let s = c.before.before in
     let n = s.args.n in
     let b = 2 * s.args.i + 1 in
-    to_z-of_z (record { sfits = c.cosine.type-inv })
-    ∙ (rw c.before.parts.ensures at c.cosine.ensures)
+    to_z-of_z {w = w64} (record { sfits = c.cosine.type_inv })
+    ∙ (rw c.before.parts-d.ensures at c.cosine.ensures)
     ∙ ap C (back (d n) n b (len s).parts (angle≤ s))
     ∙ C_period (pos (d n) *ℤ (pos n -ℤ pos b)) (pos 1)
   where

@@ -57,16 +57,16 @@ module _ (t : ℕ) (c : split-lts.After-thirds (callees t) (split_at t) split.Po
   s = c.before.before.before.before.before
 
   abbrev wa : List ℤ
-  wa = c.thirds.new.1.0
+  wa = c.thirds.new.wa
 
   abbrev wb : List ℤ
-  wb = c.thirds.new.1.1.0
+  wb = c.thirds.new.wb
 
   abbrev wg : List ℤ
-  wg = c.thirds.new.1.1.1.0
+  wg = c.thirds.new.wg
 
   again : N t s / 3 % 12 ≡ 0
-  again = c.before.before.before.before.if1.true
+  again = c.before.before.before.before.if-t-eq0.true
 
   thirds : Thirds (N t s) (y t s) wa wb wg
   thirds = c.thirds.ensures
@@ -86,7 +86,7 @@ module _ (t : ℕ) (c : split-lts.After-split (callees t) (split_at t) split.Pos
   u_a = c.before.before.before.before.before.before
 
   abbrev a : List ℤ
-  a = c.split.new.1.0
+  a = c.split.new.out
 
   a_is : a ≡ part_sums 0 (N t (s t u_a)) (y t (s t u_a))
   a_is = call_gives (N t (s t u_a)) (y t (s t u_a)) (given t (s t u_a)) 0 _ _ (thirds t u_a).first.is _ c.split.ensures
@@ -94,49 +94,49 @@ module _ (t : ℕ) (c : split-lts.After-split (callees t) (split_at t) split.Pos
   a_long : length a ≡ N t (s t u_a) / 6
   a_long = sums_long (N t (s t u_a)) (y t (s t u_a)) (given t (s t u_a)) 0 a a_is
 
-module _ (t : ℕ) (c : split-lts.After-split2 (callees t) (split_at t) split.Post) where
+module _ (t : ℕ) (c : split-lts.After-split-then-t-eq0 (callees t) (split_at t) split.Post) where
   abbrev u_b : split-lts.After-thirds (callees t) (split_at t) split.Post
   u_b = c.before.before.before.before.before.before.before.before.before.before
 
   abbrev b : List ℤ
-  b = c.split2.new.1.0
+  b = c.split-then-t-eq0.new.out
 
   b_is : b ≡ part_sums 1 (N t (s t u_b)) (y t (s t u_b))
-  b_is = call_gives (N t (s t u_b)) (y t (s t u_b)) (given t (s t u_b)) 1 _ _ (thirds t u_b).second.is _ c.split2.ensures
+  b_is = call_gives (N t (s t u_b)) (y t (s t u_b)) (given t (s t u_b)) 1 _ _ (thirds t u_b).second.is _ c.split-then-t-eq0.ensures
 
   b_long : length b ≡ N t (s t u_b) / 6
   b_long = sums_long (N t (s t u_b)) (y t (s t u_b)) (given t (s t u_b)) 1 b b_is
 
-module _ (t : ℕ) (c : split-lts.After-split3 (callees t) (split_at t) split.Post) where
+module _ (t : ℕ) (c : split-lts.After-split-then-t-eq0-2 (callees t) (split_at t) split.Post) where
   abbrev u_g : split-lts.After-thirds (callees t) (split_at t) split.Post
   u_g = c.before.before.before.before.before.before.before.before.before.before.before.before.before.before
 
   abbrev g : List ℤ
-  g = c.split3.new.1.0
+  g = c.split-then-t-eq0-2.new.out
 
   g_is : g ≡ part_sums 2 (N t (s t u_g)) (y t (s t u_g))
-  g_is = call_gives (N t (s t u_g)) (y t (s t u_g)) (given t (s t u_g)) 2 _ _ (thirds t u_g).last.is _ c.split3.ensures
+  g_is = call_gives (N t (s t u_g)) (y t (s t u_g)) (given t (s t u_g)) 2 _ _ (thirds t u_g).last.is _ c.split-then-t-eq0-2.ensures
 
   g_long : length g ≡ N t (s t u_g) / 6
   g_long = sums_long (N t (s t u_g)) (y t (s t u_g)) (given t (s t u_g)) 2 g g_is
 
 -- ---- the three parts
-split_array_borrow_prefix_wa : (t : ℕ) → split-lts.Need-array-borrow-prefix-wa (callees t) (split_at t) split.Post
+split_array_borrow_prefix_wa : (t : ℕ) → split-lts.Need-slice_bounds-wa-end (callees t) (split_at t) split.Post
 split_array_borrow_prefix_wa t c = room_24 t c.before
 
-split_slice_aggregate_thirds : (t : ℕ) → split-lts.Need-slice-aggregate-thirds (callees t) (split_at t) split.Post
+split_slice_aggregate_thirds : (t : ℕ) → split-lts.Need-slice_bounds-thirds-end (callees t) (split_at t) split.Post
 split_slice_aggregate_thirds t c = front_long (N t c.before.before / 3) _ (room_24 t c.before.before)
 
-split_array_borrow_prefix_wb : (t : ℕ) → split-lts.Need-array-borrow-prefix-wb (callees t) (split_at t) split.Post
+split_array_borrow_prefix_wb : (t : ℕ) → split-lts.Need-slice_bounds-wb-end (callees t) (split_at t) split.Post
 split_array_borrow_prefix_wb t c = room_24 t c.before.before
 
-split_slice_aggregate_thirds_2 : (t : ℕ) → split-lts.Need-slice-aggregate-thirds-2 (callees t) (split_at t) split.Post
+split_slice_aggregate_thirds_2 : (t : ℕ) → split-lts.Need-slice_bounds-thirds-end-then-t-eq0 (callees t) (split_at t) split.Post
 split_slice_aggregate_thirds_2 t c = front_long (N t c.before.before.before / 3) _ (room_24 t c.before.before.before)
 
-split_array_borrow_prefix_wg : (t : ℕ) → split-lts.Need-array-borrow-prefix-wg (callees t) (split_at t) split.Post
+split_array_borrow_prefix_wg : (t : ℕ) → split-lts.Need-slice_bounds-wg-end (callees t) (split_at t) split.Post
 split_array_borrow_prefix_wg t c = room_24 t c.before.before.before
 
-split_slice_aggregate_thirds_3 : (t : ℕ) → split-lts.Need-slice-aggregate-thirds-3 (callees t) (split_at t) split.Post
+split_slice_aggregate_thirds_3 : (t : ℕ) → split-lts.Need-slice_bounds-thirds-end-then-t-eq0-2 (callees t) (split_at t) split.Post
 split_slice_aggregate_thirds_3 t c = front_long (N t c.before.before.before.before / 3) _ (room_24 t c.before.before.before.before)
 
 split_thirds_requires : (t : ℕ) → split-lts.Need-thirds-requires (callees t) (split_at t) split.Post
@@ -144,24 +144,24 @@ split_thirds_requires t c κs =
     let s = c.before.before.before.before in
     let r = room_24 t s in (
       given t s,
-      (third-more (N t s) (given t s).short c.before.before.before.if1.true, record { first = length-take-le (N t s / 3) _ r; second = length-take-le (N t s / 3) _ r; last = length-take-le (N t s / 3) _ r }),
+      (third-more (N t s) (given t s).short c.before.before.before.if-t-eq0.true, record { first = length-take-le (N t s / 3) _ r; second = length-take-le (N t s / 3) _ r; last = length-take-le (N t s / 3) _ r }),
     )
 
 -- ---- the sums of each
-split_array_share_prefix_wa : (t : ℕ) → split-lts.Need-array-share-prefix-wa (callees t) (split_at t) split.Post
+split_array_share_prefix_wa : (t : ℕ) → split-lts.Need-slice_bounds-wa-end-then-t-eq0 (callees t) (split_at t) split.Post
 split_array_share_prefix_wa t c =
     let u = c.before.before.before in
     front_room (N t (s t u) / 3) (wa t u) _ (wa_long t u)
 
-split_slice_aggregate_split : (t : ℕ) → split-lts.Need-slice-aggregate-split (callees t) (split_at t) split.Post
+split_slice_aggregate_split : (t : ℕ) → split-lts.Need-slice_bounds-split-end (callees t) (split_at t) split.Post
 split_slice_aggregate_split t c =
     let u = c.before.before.before.before in
     front_long (N t (s t u) / 3) _ (front_room (N t (s t u) / 3) (wa t u) _ (wa_long t u))
 
-split_array_borrow_prefix_a : (t : ℕ) → split-lts.Need-array-borrow-prefix-a (callees t) (split_at t) split.Post
+split_array_borrow_prefix_a : (t : ℕ) → split-lts.Need-slice_bounds-a-end (callees t) (split_at t) split.Post
 split_array_borrow_prefix_a t c = room_12 t c.before.before.before.before.before.before.before.before.before
 
-split_slice_aggregate_split_2 : (t : ℕ) → split-lts.Need-slice-aggregate-split-2 (callees t) (split_at t) split.Post
+split_slice_aggregate_split_2 : (t : ℕ) → split-lts.Need-slice_bounds-split-end-then-t-eq0 (callees t) (split_at t) split.Post
 split_slice_aggregate_split_2 t c = front_long (N t c.before.before.before.before.before.before.before.before.before.before / 6) _ (room_12 t c.before.before.before.before.before.before.before.before.before.before)
 
 split_split_requires : (t : ℕ) → split-lts.Need-split-requires (callees t) (split_at t) split.Post
@@ -169,74 +169,74 @@ split_split_requires t c κs =
     let u = c.before.before.before.before.before in
     call_asks (N t (s t u)) (y t (s t u)) (given t (s t u)) 0 _ _ (thirds t u).first.is (again t u) t (s t u).requires.0 _ (room_12 t (s t u))
 
-split_array_share_prefix_wb : (t : ℕ) → split-lts.Need-array-share-prefix-wb (callees t) (split_at t) split.Post
+split_array_share_prefix_wb : (t : ℕ) → split-lts.Need-slice_bounds-wb-end-then-t-eq0 (callees t) (split_at t) split.Post
 split_array_share_prefix_wb t c =
     let u = c.before.before.before.before.before.before.before in
     front_room (N t (s t u) / 3) (wb t u) _ (wb_long t u)
 
-split_slice_aggregate_split_3 : (t : ℕ) → split-lts.Need-slice-aggregate-split-3 (callees t) (split_at t) split.Post
+split_slice_aggregate_split_3 : (t : ℕ) → split-lts.Need-slice_bounds-split-end-then-t-eq0-2 (callees t) (split_at t) split.Post
 split_slice_aggregate_split_3 t c =
     let u = c.before.before.before.before.before.before.before.before in
     front_long (N t (s t u) / 3) _ (front_room (N t (s t u) / 3) (wb t u) _ (wb_long t u))
 
-split_array_borrow_prefix_b : (t : ℕ) → split-lts.Need-array-borrow-prefix-b (callees t) (split_at t) split.Post
+split_array_borrow_prefix_b : (t : ℕ) → split-lts.Need-slice_bounds-b-end (callees t) (split_at t) split.Post
 split_array_borrow_prefix_b t c = room_12 t c.before.before.before.before.before.before.before.before.before.before.before.before.before
 
-split_slice_aggregate_split_4 : (t : ℕ) → split-lts.Need-slice-aggregate-split-4 (callees t) (split_at t) split.Post
+split_slice_aggregate_split_4 : (t : ℕ) → split-lts.Need-slice_bounds-split-end-then-t-eq0-3 (callees t) (split_at t) split.Post
 split_slice_aggregate_split_4 t c = front_long (N t c.before.before.before.before.before.before.before.before.before.before.before.before.before.before / 6) _ (room_12 t c.before.before.before.before.before.before.before.before.before.before.before.before.before.before)
 
-split_split_requires_2 : (t : ℕ) → split-lts.Need-split-requires-2 (callees t) (split_at t) split.Post
+split_split_requires_2 : (t : ℕ) → split-lts.Need-split-requires-then-t-eq0 (callees t) (split_at t) split.Post
 split_split_requires_2 t c κs =
     let u = c.before.before.before.before.before.before.before.before.before in
     call_asks (N t (s t u)) (y t (s t u)) (given t (s t u)) 1 _ _ (thirds t u).second.is (again t u) t (s t u).requires.0 _ (room_12 t (s t u))
 
-split_array_share_prefix_wg : (t : ℕ) → split-lts.Need-array-share-prefix-wg (callees t) (split_at t) split.Post
+split_array_share_prefix_wg : (t : ℕ) → split-lts.Need-slice_bounds-wg-end-then-t-eq0 (callees t) (split_at t) split.Post
 split_array_share_prefix_wg t c =
     let u = c.before.before.before.before.before.before.before.before.before.before.before in
     front_room (N t (s t u) / 3) (wg t u) _ (wg_long t u)
 
-split_slice_aggregate_split_5 : (t : ℕ) → split-lts.Need-slice-aggregate-split-5 (callees t) (split_at t) split.Post
+split_slice_aggregate_split_5 : (t : ℕ) → split-lts.Need-slice_bounds-split-end-then-t-eq0-4 (callees t) (split_at t) split.Post
 split_slice_aggregate_split_5 t c =
     let u = c.before.before.before.before.before.before.before.before.before.before.before.before in
     front_long (N t (s t u) / 3) _ (front_room (N t (s t u) / 3) (wg t u) _ (wg_long t u))
 
-split_array_borrow_prefix_g : (t : ℕ) → split-lts.Need-array-borrow-prefix-g (callees t) (split_at t) split.Post
+split_array_borrow_prefix_g : (t : ℕ) → split-lts.Need-slice_bounds-g-end (callees t) (split_at t) split.Post
 split_array_borrow_prefix_g t c = room_12 t c.before.before.before.before.before.before.before.before.before.before.before.before.before.before.before.before.before
 
-split_slice_aggregate_split_6 : (t : ℕ) → split-lts.Need-slice-aggregate-split-6 (callees t) (split_at t) split.Post
+split_slice_aggregate_split_6 : (t : ℕ) → split-lts.Need-slice_bounds-split-end-then-t-eq0-5 (callees t) (split_at t) split.Post
 split_slice_aggregate_split_6 t c = front_long (N t c.before.before.before.before.before.before.before.before.before.before.before.before.before.before.before.before.before.before / 6) _ (room_12 t c.before.before.before.before.before.before.before.before.before.before.before.before.before.before.before.before.before.before)
 
-split_split_requires_3 : (t : ℕ) → split-lts.Need-split-requires-3 (callees t) (split_at t) split.Post
+split_split_requires_3 : (t : ℕ) → split-lts.Need-split-requires-then-t-eq0-2 (callees t) (split_at t) split.Post
 split_split_requires_3 t c κs =
     let u = c.before.before.before.before.before.before.before.before.before.before.before.before.before in
     call_asks (N t (s t u)) (y t (s t u)) (given t (s t u)) 2 _ _ (thirds t u).last.is (again t u) t (s t u).requires.0 _ (room_12 t (s t u))
 
-split_array_share_prefix_a : (t : ℕ) → split-lts.Need-array-share-prefix-a (callees t) (split_at t) split.Post
+split_array_share_prefix_a : (t : ℕ) → split-lts.Need-slice_bounds-a-end-then-t-eq0 (callees t) (split_at t) split.Post
 split_array_share_prefix_a t c =
     let x = c.before.before.before.before.before.before.before.before.before in
     front_room (N t (s t (u_a t x)) / 6) (a t x) _ (a_long t x)
 
-split_slice_aggregate_join : (t : ℕ) → split-lts.Need-slice-aggregate-join (callees t) (split_at t) split.Post
+split_slice_aggregate_join : (t : ℕ) → split-lts.Need-slice_bounds-join-end (callees t) (split_at t) split.Post
 split_slice_aggregate_join t c =
     let x = c.before.before.before.before.before.before.before.before.before.before in
     front_long (N t (s t (u_a t x)) / 6) _ (front_room (N t (s t (u_a t x)) / 6) (a t x) _ (a_long t x))
 
-split_array_share_prefix_b : (t : ℕ) → split-lts.Need-array-share-prefix-b (callees t) (split_at t) split.Post
+split_array_share_prefix_b : (t : ℕ) → split-lts.Need-slice_bounds-b-end-then-t-eq0 (callees t) (split_at t) split.Post
 split_array_share_prefix_b t c =
     let x = c.before.before.before.before.before.before in
     front_room (N t (s t (u_b t x)) / 6) (b t x) _ (b_long t x)
 
-split_slice_aggregate_join_2 : (t : ℕ) → split-lts.Need-slice-aggregate-join-2 (callees t) (split_at t) split.Post
+split_slice_aggregate_join_2 : (t : ℕ) → split-lts.Need-slice_bounds-join-end-then-t-eq0 (callees t) (split_at t) split.Post
 split_slice_aggregate_join_2 t c =
     let x = c.before.before.before.before.before.before.before in
     front_long (N t (s t (u_b t x)) / 6) _ (front_room (N t (s t (u_b t x)) / 6) (b t x) _ (b_long t x))
 
-split_array_share_prefix_g : (t : ℕ) → split-lts.Need-array-share-prefix-g (callees t) (split_at t) split.Post
+split_array_share_prefix_g : (t : ℕ) → split-lts.Need-slice_bounds-g-end-then-t-eq0 (callees t) (split_at t) split.Post
 split_array_share_prefix_g t c =
     let x = c.before.before.before in
     front_room (N t (s t (u_g t x)) / 6) (g t x) _ (g_long t x)
 
-split_slice_aggregate_join_3 : (t : ℕ) → split-lts.Need-slice-aggregate-join-3 (callees t) (split_at t) split.Post
+split_slice_aggregate_join_3 : (t : ℕ) → split-lts.Need-slice_bounds-join-end-then-t-eq0-2 (callees t) (split_at t) split.Post
 split_slice_aggregate_join_3 t c =
     let x = c.before.before.before.before in
     front_long (N t (s t (u_g t x)) / 6) _ (front_room (N t (s t (u_g t x)) / 6) (g t x) _ (g_long t x))
@@ -252,23 +252,23 @@ split_join_requires t c κs =
 split_last_requires : (t : ℕ) → split-lts.Need-last-requires (callees t) (split_at t) split.Post
 split_last_requires t c κs =
     let s = c.before.before in
-    (given t s, (third_last (N t s) (given t s).short c.before.if1.false, s.requires.1.1))
+    (given t s, (third_last (N t s) (given t s).short c.before.if-t-eq0.false, s.requires.1.1))
 
 -- ---- the sums of the part
-split_same_length : (t : ℕ) → split-lts.Need-same-length (callees t) (split_at t) split.Post
-split_same_length t c = c.before.join.auto.1.1.1.0
+split_same_length : (t : ℕ) → split-lts.Need-shape_of-out-then-t-eq0 (callees t) (split_at t) split.Post
+split_same_length t c = c.before.join.auto.out
 
-split_returns : (t : ℕ) → split-lts.Need-returns (callees t) (split_at t) split.Post
+split_returns : (t : ℕ) → split-lts.Need-returns-then-t-eq0 (callees t) (split_at t) split.Post
 split_returns t c =
     let u = c.before.before.before.before.before.before.before.before.before.before.before.before.before.before.before.before.before.before.before.before.before in
     let h : Sums (N t (s t u)) (y t (s t u)) (a t c.before.before.before.before.before.before.before.before.before.before.before.before.before.before.before) (b t c.before.before.before.before.before.before.before.before.before.before.before) (g t c.before.before.before.before.before.before.before) =
     record { piece = given t (s t u); a_is = a_is t c.before.before.before.before.before.before.before.before.before.before.before.before.before.before.before; b_is = b_is t c.before.before.before.before.before.before.before.before.before.before.before; g_is = g_is t c.before.before.before.before.before.before.before } in
     join_gives (N t (s t u)) (y t (s t u)) _ _ _ _ _ _ h _ c.before.join.ensures
 
-split_same_length_2 : (t : ℕ) → split-lts.Need-same-length-2 (callees t) (split_at t) split.Post
+split_same_length_2 : (t : ℕ) → split-lts.Need-shape_of-out-else-t-eq0 (callees t) (split_at t) split.Post
 split_same_length_2 t c = search rules
 
-split_returns_2 : (t : ℕ) → split-lts.Need-returns-2 (callees t) (split_at t) split.Post
+split_returns_2 : (t : ℕ) → split-lts.Need-returns-else-t-eq0 (callees t) (split_at t) split.Post
 split_returns_2 t c = c.before.last.ensures
 
 pub +split_spec : {M : Type 1} → statement M

@@ -37,27 +37,27 @@ module _ (c : tie.After-split) where
   x = c.before.before
 
   abbrev sums : List ℤ
-  sums = c.split.new.1.0
+  sums = c.split.new.out
 
   is : sums ≡ table (N x / 2) (scaled (N x) (at (y x)))
   is = c.split.ensures
 
   long : length sums ≡ h x
-  long = whole_long (N x) (y x) (given x) sums is ∙ sym x.pre.1.1
+  long = whole_long (N x) (y x) (given x) sums is ∙ sym x.requires.1.1
 
-array_borrow_prefix_s : tie.Need-array-borrow-prefix-s
+array_borrow_prefix_s : tie.Need-slice_bounds-s-end
 array_borrow_prefix_s c = room_36 c
 
-slice_aggregate_split : tie.Need-slice-aggregate-split
+slice_aggregate_split : tie.Need-slice_bounds-split-end
 slice_aggregate_split c = front_long (h c.before) _ (room_36 c.before)
 
 split_requires : tie.Need-split-requires
 split_requires c κs = let x = c.before in (given x, length-take-le (h x) _ (room_36 x) ∙ x.requires.1.1)
 
-array_share_prefix_s : tie.Need-array-share-prefix-s
+array_share_prefix_s : tie.Need-slice_bounds-s-end-2
 array_share_prefix_s c = let p = c.before in front_room (h (x p)) (sums p) _ (long p)
 
-slice_aggregate_spectrum : tie.Need-slice-aggregate-spectrum
+slice_aggregate_spectrum : tie.Need-slice_bounds-spectrum-end
 slice_aggregate_spectrum c = let p = c.before.before in front_long (h (x p)) _ (front_room (h (x p)) (sums p) _ (long p))
 
 spectrum_requires : tie.Need-spectrum-requires
@@ -65,7 +65,7 @@ spectrum_requires c κs =
     let p = c.before.before.before in
     rw (front_is (h (x p)) (sums p) _ (long p)) (sym (long p), whole_small (N (x p)) (y (x p)) (given (x p)) (sums p) (is p))
 
-same_length : tie.Need-same-length
+same_length : tie.Need-shape_of-out
 same_length c = search rules
 
 returns : tie.Need-returns

@@ -13,7 +13,7 @@ analyse_requires c κs =
     let g = q.1.0.given in
     (rw g.all q.0, (g.small, q.1.1 ∙ omega (arith, g.all)))
 
-same_length : tie.Need-same-length
+same_length : tie.Need-shape_of-out
 same_length c = search rules
 
 returns : tie.Need-returns

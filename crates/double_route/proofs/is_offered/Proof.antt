@@ -4,13 +4,13 @@ use Rattle.double_route.specs.Double.{offered}
 use Rattle.double_route.proofs.is_offered.Statement.{statement}
 use Rattle.double_route.proofs.is_offered.Tie as tie
 
-returns : tie.Need-returns
+returns : tie.Need-returns-then-n-eq36
 unfolding offered
-returns c = rw (eq-eqb _ 36 c.if1.true)
+returns c = rw (eq-eqb _ 36 c.if-n-eq36.true)
 
-returns_2 : tie.Need-returns-2
+returns_2 : tie.Need-returns
 unfolding offered
-returns_2 c = rw (ne_eqb _ 36 c.if1.false)
+returns_2 c = rw (ne_eqb _ 36 c.if-n-eq36.false)
 
 pub is_offered_spec : {M : Type 1} → statement M
 is_offered_spec = tie.close (tie.spec returns returns_2)

@@ -1,4 +1,5 @@
 -- `put_ends` meets its contract: a taken call has room for two, and the two stores fill it.
+use mir.Syntax.{w32}
 use mathlib.Core.Path.{◌≡◌, sym, ap, ◌∙◌}
 use native.Mathlib.Omega.{arith}
 use borrow.Author.Rules.{rules}
@@ -10,22 +11,22 @@ use Rattle.float_calls.specs.FloatCallLaws.{Sized, block_facts, pair_refused, pa
 use Rattle.float_calls.proofs.put_ends.Statement.{statement}
 use Rattle.float_calls.proofs.put_ends.Tie as tie
 
-block_code_requires : tie.Need-block-code-requires
+block_code_requires : tie.Need-block_code-code-requires
 block_code_requires c κs = search rules
 
-returns : tie.Need-returns
+returns : tie.Need-returns-then-code-ne0
 returns c =
     let a = c.before.before.before.args in
-    let y = c.before.block-code in
-    (y.ensures, pair_refused a.n a.x.now a.pair.now (λ (e : pair_code a.n a.x.now a.pair.now ≡ 0). c.if1.true (y.ensures ∙ e)))
+    let y = c.before.block_code-code in
+    (y.ensures, pair_refused a.n a.x.now a.pair.now (λ (e : pair_code a.n a.x.now a.pair.now ≡ 0). c.if-code-ne0.true (y.ensures ∙ e)))
 
 -- past the test
-module _ (c : tie.Else1) where
+module _ (c : tie.Else-code-ne0) where
   abbrev start : tie.Start
   start = c.before.before.before
 
   taken : pair_code start.args.n start.args.x.now start.args.pair.now ≡ 0
-  taken = sym c.before.block-code.ensures ∙ c.if1.false
+  taken = sym c.before.block_code-code.ensures ∙ c.if-code-ne0.false
 
   facts : Sized start.args.n start.args.x.now (length start.args.pair.now) 2
   facts = block_facts start.args.n start.args.x.now (length start.args.pair.now) 2 taken
@@ -33,25 +34,25 @@ module _ (c : tie.Else1) where
 highest_requires : tie.Need-highest-requires
 highest_requires c κs = (facts c).some
 
-sixty_fourth_requires : tie.Need-sixty-fourth-requires
+sixty_fourth_requires : tie.Need-sixty_fourth-requires
 sixty_fourth_requires c κs = search rules
 
-slice_write_pair : tie.Need-slice-write-pair
+slice_write_pair : tie.Need-bounds-pair-0
 slice_write_pair c = omega (arith, (facts c.before.before).room_is)
 
 lowest_requires : tie.Need-lowest-requires
 lowest_requires c κs = (facts c.before.before).some
 
-sixty_fourth_requires_2 : tie.Need-sixty-fourth-requires-2
+sixty_fourth_requires_2 : tie.Need-sixty_fourth-requires-2
 sixty_fourth_requires_2 c κs = search rules
 
-slice_write_pair_2 : tie.Need-slice-write-pair-2
+slice_write_pair_2 : tie.Need-bounds-pair-1
 slice_write_pair_2 c = simp length-set (omega (arith, (facts c.before.before.before.before).room_is))
 
-same_length : tie.Need-same-length
+same_length : tie.Need-shape_of-pair
 same_length c = search rules
 
-returns_2 : tie.Need-returns-2
+returns_2 : tie.Need-returns
 returns_2 c =
     let high = c.before.before.before.highest in
     let low = c.before.lowest in
@@ -62,10 +63,10 @@ returns_2 c =
           a.n
           a.x.now
           a.pair.now
-          c.before.before.sixty-fourth.result
-          c.sixty-fourth2.result
-          (c.before.before.sixty-fourth.ensures ∙ ap sixty_fourth (to_z-of_z (record { sfits = high.type-inv }) ∙ high.ensures))
-          (c.sixty-fourth2.ensures ∙ ap sixty_fourth (to_z-of_z (record { sfits = low.type-inv }) ∙ low.ensures))
+          c.before.before.sixty_fourth.result
+          c.sixty_fourth-2.result
+          (c.before.before.sixty_fourth.ensures ∙ ap sixty_fourth (to_z-of_z {w = w32} (record { sfits = high.type_inv }) ∙ high.ensures))
+          (c.sixty_fourth-2.ensures ∙ ap sixty_fourth (to_z-of_z {w = w32} (record { sfits = low.type_inv }) ∙ low.ensures))
           (taken e),
     )
 

@@ -12,47 +12,47 @@ use native.Mathlib.Omega.{arith}
 use Rattle.floats.proofs.lowest.Statement.{statement}
 use Rattle.floats.proofs.lowest.Tie as tie
 
-abbrev invariant-loop : tie.invariant-loop
+abbrev invariant-loop : tie.invariant-loop-k
 invariant-loop x best₀ k₀ k_end best k = (k ≤ length x) × (to_z w32 best ≡ picked smaller x k)
 
-abbrev decreases-loop : tie.decreases-loop
+abbrev decreases-loop : tie.decreases-loop-k
 decreases-loop x best₀ k₀ k_end best k = length x - k
 
-shared_slice_copy_out_best : tie.Need-shared-slice-copy-out-best invariant-loop decreases-loop
+shared_slice_copy_out_best : tie.Need-bounds-x-0 invariant-loop decreases-loop
 shared_slice_copy_out_best c = search rules
 
-loop-holds : tie.Need-loop-init invariant-loop decreases-loop
-loop-holds c = (omega arith, to_z-of_z (record { sfits = c.best.given }) ∙ sym (picked_none smaller c.before.args.x.now))
+loop-holds : tie.Need-loop-k-init invariant-loop decreases-loop
+loop-holds c = (omega arith, to_z-of_z {w = w32} (record { sfits = c.best-1.given }) ∙ sym (picked_none smaller c.before.args.x.now))
 
-mul_smaller : tie.Need-overflow-mul-smaller invariant-loop decreases-loop
+mul_smaller : tie.Need-offset_bounds-x-k invariant-loop decreases-loop
 mul_smaller c = search rules
 
-shared_slice_copy_out_smaller : tie.Need-shared-slice-copy-out-smaller invariant-loop decreases-loop
+shared_slice_copy_out_smaller : tie.Need-bounds-x-k invariant-loop decreases-loop
 shared_slice_copy_out_smaller c = search rules
 
-smaller_requires : tie.Need-smaller-requires invariant-loop decreases-loop
+smaller_requires : tie.Need-smaller-best-requires invariant-loop decreases-loop
 smaller_requires c κs = search rules
 
-add_k : tie.Need-overflow-add-k invariant-loop decreases-loop
+add_k : tie.Need-overflow_step-k invariant-loop decreases-loop
 add_k c = search rules
 
-loop-less : tie.Need-loop-smaller invariant-loop decreases-loop
+loop-less : tie.Need-loop-k-smaller invariant-loop decreases-loop
 loop-less c = search rules
 
-loop-again : tie.Need-loop-preserved invariant-loop decreases-loop
+loop-again : tie.Need-loop-k-preserved invariant-loop decreases-loop
 loop-again c =
-    let l = c.before.before.before.loop in
+    let l = c.before.before.before.loop-k in
     let x = c.before.before.before.before.before.args.x.now in (
       omega arith,
-      to_z-of_z (record { sfits = c.smaller.type-inv })
-          ∙ c.smaller.ensures
-          ∙ ap₂ smaller l.invariant.1 (to_z-of_z (record { sfits = c.before.smaller-arg.given }))
+      to_z-of_z {w = w32} (record { sfits = c.smaller-best.type_inv })
+          ∙ c.smaller-best.ensures
+          ∙ ap₂ smaller l.invariant.1 (to_z-of_z {w = w32} (record { sfits = c.before.smaller-arg-1.given }))
           ∙ sym (picked_more smaller x l.k),
     )
 
 returns : tie.Need-returns invariant-loop decreases-loop
 unfolding lowest_of
-returns c = let e : c.before.loop.k ≡ length c.before.before.before.args.x.now = omega arith in c.before.loop.invariant.1 ∙ ap (picked smaller c.before.before.before.args.x.now) e
+returns c = let e : c.before.loop-k.k ≡ length c.before.before.before.args.x.now = omega arith in c.before.loop-k.invariant.1 ∙ ap (picked smaller c.before.before.before.args.x.now) e
 
 pub lowest_spec : {M : Type 1} → statement M
 lowest_spec =

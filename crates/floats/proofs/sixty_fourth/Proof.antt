@@ -7,7 +7,7 @@ use Rattle.floats.specs.FloatLaws.{divided}
 use Rattle.floats.proofs.sixty_fourth.Statement.{statement}
 use Rattle.floats.proofs.sixty_fourth.Tie as tie
 
-int_to_float_result : tie.Need-int-to-float-result
+int_to_float_result : tie.Need-int_to_float-result
 int_to_float_result c = search rules
 
 returns : tie.Need-returns

@@ -20,85 +20,85 @@ use borrow.Author.Rules.{rules}
 use Rattle.level_calls.proofs.quantise.Statement.{statement}
 use Rattle.level_calls.proofs.quantise.Tie as tie
 
-is_tabled_requires : tie.Need-is-tabled-requires
+is_tabled_requires : tie.Need-is_tabled-requires
 is_tabled_requires c κs = search rules
 
 -- ---- what the tests say
-abbrev start : tie.Else1 → tie.Start
+abbrev start : tie.Else-not-is_tabled → tie.Start
 start c = c.before.before.before
 
-good : (c : tie.Else1) → tabled (start c).args.n ≡ true
-good c = sym c.before.is-tabled.ensures ∙ not-false c.before.is-tabled.result c.if1.false
+good : (c : tie.Else-not-is_tabled) → tabled (start c).args.n ≡ true
+good c = sym c.before.is_tabled.ensures ∙ not-false c.before.is_tabled.result c.if-not-is_tabled.false-raw
 
-tab : (c : tie.Else1) → T (tabled (start c).args.n)
+tab : (c : tie.Else-not-is_tabled) → T (tabled (start c).args.n)
 tab c = rw (good c) tt
 
-said : (t : tie.After-read) → let a = (start t.before).args in t.read.result.code ≡ table_code (a.n / 2) a.table.now
-said t = t.read.ensures.code_is
+said : (t : tie.After-read-read) → let a = (start t.before).args in t.read-read.result.code ≡ table_code (a.n / 2) a.table.now
+said t = t.read-read.ensures.code_is
 
-module _ (c : tie.Else2) where
-  abbrev from : tie.After-read
+module _ (c : tie.Else-read-ne0) where
+  abbrev from : tie.After-read-read
   from = c.before.before
 
   taken : let a = (start from.before).args in table_code (a.n / 2) a.table.now ≡ 0
-  taken = sym (said from) ∙ c.if2.false
+  taken = sym (said from) ∙ c.if-read-ne0.false
 
-  each : let a = (start from.before).args in Each a.n a.table.now from.read.result.each
-  each = let a = (start from.before).args in each_of a.n (tab from.before) a.table.now from.read.result from.read.ensures c.if2.false
+  each : let a = (start from.before).args in Each a.n a.table.now from.read-read.result.each
+  each = let a = (start from.before).args in each_of a.n (tab from.before) a.table.now from.read-read.result from.read-read.ensures c.if-read-ne0.false
 
-brought : (c : tie.Else3) → let a = (start c.before.before.before.before).args in length a.x.now ≡ a.n / 2
-brought c = omega (arith, c.if3.false)
+brought : (c : tie.Else-x-m) → let a = (start c.before.before.before.before).args in length a.x.now ≡ a.n / 2
+brought c = omega (arith, c.if-x-m.false)
 
-room : (c : tie.Else4) → let a = (start c.before.before.before.before.before).args in length a.levels.now ≡ a.n / 2
-room c = omega (arith, c.if4.false)
+room : (c : tie.Else-levels-m) → let a = (start c.before.before.before.before.before).args in length a.levels.now ≡ a.n / 2
+room c = omega (arith, c.if-levels-m.false)
 
-ranged : (c : tie.Else5) → let a = (start c.before.before.before.before.before.before.before).args in in_range (a.n / 2) a.x.now ≡ true
-ranged c = sym c.before.in_range.ensures ∙ not-false c.before.in_range.result c.if5.false
+ranged : (c : tie.Else-not-in_range) → let a = (start c.before.before.before.before.before.before.before).args in in_range (a.n / 2) a.x.now ≡ true
+ranged c = sym c.before.in_range.ensures ∙ not-false c.before.in_range.result c.if-not-in_range.false-raw
 
 -- ---- the answers
-returns : tie.Need-returns
+returns : tie.Need-returns-then-not-is_tabled
 unfolding quantise_causes
 returns c =
     let a = c.before.before.before.args in
-    quantise-answer a.n a.table.now a.x.now a.levels.now (stop (sym c.before.is-tabled.ensures ∙ not-true c.before.is-tabled.result c.if1.true))
+    quantise-answer a.n a.table.now a.x.now a.levels.now (stop (sym c.before.is_tabled.ensures ∙ not-true c.before.is_tabled.result c.if-not-is_tabled.true-raw))
 
-read_requires : tie.Need-read-requires
+read_requires : tie.Need-read-read-requires
 read_requires c κs = let n = (start c).args.n in (hop-some n (tab c), hop-most n (tab c))
 
-returns_2 : tie.Need-returns-2
+returns_2 : tie.Need-returns-then-read-ne0
 unfolding quantise_causes
 returns_2 c =
     let t = c.before.before in
     let e = t.before in
     let a = (start e).args in
-    let n : table_code (a.n / 2) a.table.now ≢ 0 = λ z. c.if2.true (said t ∙ z) in
+    let n : table_code (a.n / 2) a.table.now ≢ 0 = λ z. c.if-read-ne0.true (said t ∙ z) in
     let q = quantise-refused a.n a.table.now a.x.now a.levels.now (pass (good e) (stop (ne_eqb (table_code (a.n / 2) a.table.now) 0 n))) n in
     (said t ∙ q.0, q.1)
 
-returns_3 : tie.Need-returns-3
+returns_3 : tie.Need-returns-then-x-m
 unfolding quantise_causes
 returns_3 c =
     let d = c.before in
     let e = (from d).before in
     let a = (start e).args in
-    quantise-answer a.n a.table.now a.x.now a.levels.now (pass (good e) (same (taken d) (differs (λ (l : length a.x.now ≡ a.n / 2). c.if3.true (omega (arith, l))))))
+    quantise-answer a.n a.table.now a.x.now a.levels.now (pass (good e) (same (taken d) (differs (λ (l : length a.x.now ≡ a.n / 2). c.if-x-m.true (omega (arith, l))))))
 
-returns_4 : tie.Need-returns-4
+returns_4 : tie.Need-returns-then-levels-m
 unfolding quantise_causes
 returns_4 c =
     let f = c.before in
     let d = f.before in
     let e = (from d).before in
     let a = (start e).args in
-    quantise-answer a.n a.table.now a.x.now a.levels.now (pass (good e) (same (taken d) (same (brought f) (differs (λ (l : length a.levels.now ≡ a.n / 2). c.if4.true (omega (arith, l)))))))
+    quantise-answer a.n a.table.now a.x.now a.levels.now (pass (good e) (same (taken d) (same (brought f) (differs (λ (l : length a.levels.now ≡ a.n / 2). c.if-levels-m.true (omega (arith, l)))))))
 
-in_range_requires : tie.Need-in-range-requires
+in_range_requires : tie.Need-in_range-requires
 in_range_requires c κs =
     let f = c.before in
     let e = (from f.before).before in
     (omega (arith, brought f), hop_sixes (start e).args.n (tab e))
 
-returns_5 : tie.Need-returns-5
+returns_5 : tie.Need-returns-then-not-in_range
 unfolding quantise_causes
 returns_5 c =
     let g = c.before.before in
@@ -107,46 +107,46 @@ returns_5 c =
     let e = (from d).before in
     let a = (start e).args in
     quantise-answer a.n a.table.now a.x.now a.levels.now
-    (pass (good e) (same (taken d) (same (brought f) (same (room g) (stop (sym c.before.in_range.ensures ∙ not-true c.before.in_range.result c.if5.true))))))
+    (pass (good e) (same (taken d) (same (brought f) (same (room g) (stop (sym c.before.in_range.ensures ∙ not-true c.before.in_range.result c.if-not-in_range.true-raw))))))
 
 -- past every test
-module _ (c : tie.Else5) where
-  abbrev at_4 : tie.Else4
+module _ (c : tie.Else-not-in_range) where
+  abbrev at_4 : tie.Else-levels-m
   at_4 = c.before.before
 
-  abbrev at_3 : tie.Else3
+  abbrev at_3 : tie.Else-x-m
   at_3 = at_4.before
 
-  abbrev at_2 : tie.Else2
+  abbrev at_2 : tie.Else-read-ne0
   at_2 = at_3.before
 
-  abbrev at_1 : tie.Else1
+  abbrev at_1 : tie.Else-not-is_tabled
   at_1 = (from at_2).before
 
-array_share_prefix_each : tie.Need-array-share-prefix-each
+array_share_prefix_each : tie.Need-slice_bounds-each-end
 array_share_prefix_each c = (each (at_2 c.before)).room
 
-slice_aggregate_fill_levels : tie.Need-slice-aggregate-fill-levels
+slice_aggregate_fill_levels : tie.Need-slice_bounds-fill_levels-end
 slice_aggregate_fill_levels c = sym (each (at_2 c.before.before)).long
 
-fill_levels_requires : tie.Need-fill-levels-requires
+fill_levels_requires : tie.Need-fill_levels-requires
 fill_levels_requires c κs =
     let h = c.before.before.before in
     let a = (start (at_1 h)).args in
     let e = each (at_2 h) in
     (brought (at_3 h) ∙ sym (room (at_4 h)), (e.long ∙ sym (room (at_4 h)), (range_small a.x.now (a.n / 2) (brought (at_3 h)) (ranged h), e.stepping)))
 
-same_length : tie.Need-same-length
+same_length : tie.Need-shape_of-levels
 same_length c = search rules
 
-returns_6 : tie.Need-returns-6
+returns_6 : tie.Need-returns
 unfolding quantise_causes
 returns_6 c =
     let h = c.before.before.before.before.before in
     let a = (start (at_1 h)).args in
     let q = quantise-answer a.n a.table.now a.x.now a.levels.now
     (pass (good (at_1 h)) (same (taken (at_2 h)) (same (brought (at_3 h)) (same (room (at_4 h)) (pass (ranged h) none))))) in
-    (q.0, c.before.fill-levels.ensures ∙ rw (room (at_4 h)) ((each (at_2 h)).levels_are a.x.now) ∙ q.1)
+    (q.0, c.before.fill_levels.ensures ∙ rw (room (at_4 h)) ((each (at_2 h)).levels_are a.x.now) ∙ q.1)
 
 pub quantise_spec : {M : Type 1} → statement M
 quantise_spec =

@@ -15,14 +15,14 @@ use borrow.Author.Rules.{rules}
 use Rattle.level_calls.proofs.step_levels.Statement.{statement}
 use Rattle.level_calls.proofs.step_levels.Tie as tie
 
-slice_aggregate_admit : tie.Need-slice-aggregate-admit
+slice_aggregate_admit : tie.Need-slice_bounds-admit-end
 slice_aggregate_admit c = search rules
 
-admit_requires : tie.Need-admit-requires
+admit_requires : tie.Need-admit-early-requires
 admit_requires c κs = search rules
 
 -- what is handed in, and what the stream says
-module _ (a : tie.After-admit) where
+module _ (a : tie.After-admit-early) where
   abbrev start : tie.Start
   start = a.before.before.before.before
 
@@ -47,58 +47,58 @@ module _ (a : tie.After-admit) where
   abbrev out : List ℤ
   out = start.args.out.now
 
-  said : a.admit.result ≡ S.admit_code s number left right
-  said = a.admit.ensures
+  said : a.admit-early.result ≡ S.admit_code s number left right
+  said = a.admit-early.ensures
 
-admitted : (c : tie.Else1) → let a = c.before in S.admit_code (s a) (number a) (left a) (right a) ≡ 0
-admitted c = sym (said c.before) ∙ c.if1.false
+admitted : (c : tie.Else-early-ne0) → let a = c.before in S.admit_code (s a) (number a) (left a) (right a) ≡ 0
+admitted c = sym (said c.before) ∙ c.if-early-ne0.false
 
-tab : (c : tie.Else1) → T (tabled (s c.before).n)
+tab : (c : tie.Else-early-ne0) → T (tabled (s c.before).n)
 tab c = let a = c.before in admitted_tabled (s a) (number a) (left a) (right a) (text a) (levels a) (out a) (admitted c)
 
 -- what is brought
-module _ (b : tie.After-bring) where
-  abbrev one : tie.Else1
+module _ (b : tie.After-bring-brought) where
+  abbrev one : tie.Else-early-ne0
   one = b.before
 
-  abbrev ask : tie.After-admit
+  abbrev ask : tie.After-admit-early
   ask = one.before
 
-  told : b.bring.result.code ≡ brought_code (s ask).n (text ask) (levels ask)
-  told = b.bring.ensures.code_is
+  told : b.bring-brought.result.code ≡ brought_code (s ask).n (text ask) (levels ask)
+  told = b.bring-brought.ensures.code_is
 
-taken : (c : tie.Else2) → let a = ask c.before.before in brought_code (s a).n (text a) (levels a) ≡ 0
-taken c = sym (told c.before.before) ∙ c.if2.false
+taken : (c : tie.Else-brought-ne0) → let a = ask c.before.before in brought_code (s a).n (text a) (levels a) ≡ 0
+taken c = sym (told c.before.before) ∙ c.if-brought-ne0.false
 
-front : (c : tie.Else2) → let b = c.before.before in take ((s (ask b)).n / 2) b.bring.result.x ≡ back_by (s (ask b)).n (text (ask b)) (levels (ask b))
-front c = c.before.before.bring.ensures.back_is c.if2.false
+front : (c : tie.Else-brought-ne0) → let b = c.before.before in take ((s (ask b)).n / 2) b.bring-brought.result.x ≡ back_by (s (ask b)).n (text (ask b)) (levels (ask b))
+front c = c.before.before.bring-brought.ensures.back_is c.if-brought-ne0.false
 
-returns : tie.Need-returns
+returns : tie.Need-returns-then-early-ne0
 returns c =
     let a = c.before in
-    let n : S.admit_code (s a) (number a) (left a) (right a) ≢ 0 = λ z. c.if1.true (said a ∙ z) in
+    let n : S.admit_code (s a) (number a) (left a) (right a) ≢ 0 = λ z. c.if-early-ne0.true (said a ∙ z) in
     let e = early (s a) (number a) (left a) (right a) (text a) (levels a) (out a) n in (
       ap (λ (k : ℕ). record { code = k; stream = s a }) (said a) ∙ refused-step (s a) (number a) (left a) (right a) (text a) (levels a) (out a) n e,
       refused-out (s a) (number a) (left a) (right a) (text a) (levels a) (out a) n e,
     )
 
-bring_requires : tie.Need-bring-requires
+bring_requires : tie.Need-bring-brought-requires
 bring_requires c κs = tab c
 
-returns_2 : tie.Need-returns-2
+returns_2 : tie.Need-returns-then-brought-ne0
 returns_2 c =
     let b = c.before.before in
     let a = ask b in
-    let n : brought_code (s a).n (text a) (levels a) ≢ 0 = λ z. c.if2.true (told b ∙ z) in
+    let n : brought_code (s a).n (text a) (levels a) ≢ 0 = λ z. c.if-brought-ne0.true (told b ∙ z) in
     let e = brought (s a) (number a) (left a) (right a) (text a) (levels a) (out a) (admitted (one b)) n in (
       ap (λ (k : ℕ). record { code = k; stream = s a }) (told b) ∙ refused-step (s a) (number a) (left a) (right a) (text a) (levels a) (out a) n e,
       refused-out (s a) (number a) (left a) (right a) (text a) (levels a) (out a) n e,
     )
 
-array_share_prefix_x : tie.Need-array-share-prefix-x
-array_share_prefix_x c = c.before.before.before.bring.ensures.room
+array_share_prefix_x : tie.Need-slice_bounds-x-end
+array_share_prefix_x c = c.before.before.before.bring-brought.ensures.room
 
-slice_aggregate_step : tie.Need-slice-aggregate-step
+slice_aggregate_step : tie.Need-slice_bounds-step-end
 slice_aggregate_step c =
     let h = c.before.before in
     let a = ask h.before.before in
@@ -107,10 +107,10 @@ slice_aggregate_step c =
 step_requires : tie.Need-step-requires
 step_requires c κs = search rules
 
-same_length : tie.Need-same-length
+same_length : tie.Need-shape_of-out
 same_length c = search rules
 
-returns_3 : tie.Need-returns-3
+returns_3 : tie.Need-returns
 returns_3 c =
     let h = c.before.before.before.before.before in
     let b = h.before.before in

@@ -17,9 +17,9 @@ returns : tie.Need-returns
 unfolding back
 returns c =
     let p = c.before in
-    to_z-of_z {w = w32} {z = c.clipped.result} (record { sfits = c.clipped.type-inv })
+    to_z-of_z {w = w32} {z = c.clipped.result} (record { sfits = c.clipped.type_inv })
     ∙ c.clipped.ensures
-    ∙ ap clipped (to_z-of_z {w = w64} {z = p.product.result} (record { sfits = p.product.type-inv }) ∙ p.product.ensures ∙ rw (to_z-of_z p.before.ranges.l))
+    ∙ ap clipped (to_z-of_z {w = w64} {z = p.product.result} (record { sfits = p.product.type_inv }) ∙ p.product.ensures ∙ rw (to_z-of_z p.before.ranges.l))
 
 pub back_spec : {M : Type 1} → statement M
 back_spec = tie.close (tie.spec product_requires clipped_requires returns)

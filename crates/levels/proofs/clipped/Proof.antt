@@ -11,33 +11,33 @@ use Rattle.levels.specs.LevelLaws.{clipped-low, clipped-high, clipped-between, c
 use Rattle.levels.proofs.clipped.Statement.{statement}
 use Rattle.levels.proofs.clipped.Tie as tie
 
-returns : tie.Need-returns
+returns : tie.Need-returns-then-z-ltminus536870912
 returns c =
     let s = c.before in
-    sym (clipped-low s.args.z (rw (to_z-of_z s.ranges.z) at c.if1.true))
+    sym (clipped-low s.args.z (rw (to_z-of_z s.ranges.z) at c.if-z-ltminus536870912.true))
 
-returns_2 : tie.Need-returns-2
+returns_2 : tie.Need-returns-then-z-gt536870912
 returns_2 c =
     let s = c.before.before in
     let f = s.ranges.z in
-    sym (clipped-high s.args.z (rw (to_z-of_z f) at c.before.if1.false) (rw (to_z-of_z f) at c.if2.true))
+    sym (clipped-high s.args.z (rw (to_z-of_z f) at c.before.if-z-ltminus536870912.false) (rw (to_z-of_z f) at c.if-z-gt536870912.true))
 
-module _ (c : tie.Else2) where
+module _ (c : tie.Else-z-gt536870912) where
   abbrev z : ℤ
   z = c.before.before.args.z
 
   kept : clipped z ≡ z
   kept =
       let f = c.before.before.ranges.z in
-      clipped-between z (rw (to_z-of_z f) at c.before.if1.false) (rw (to_z-of_z f) at c.if2.false)
+      clipped-between z (rw (to_z-of_z f) at c.before.if-z-ltminus536870912.false) (rw (to_z-of_z f) at c.if-z-gt536870912.false)
 
   fits : SFits w32 z
   fits = rw kept at (sfits_abs {w = w32} (clipped z) (omega (arith, clipped_small z)))
 
-cast_result : tie.Need-overflow-cast-result
+cast_result : tie.Need-overflow_cast-result
 cast_result c = rw (to_z-of_z c.before.before.ranges.z) (fits c)
 
-returns_3 : tie.Need-returns-3
+returns_3 : tie.Need-returns
 returns_3 c = rw (to_z-of_z c.before.before.ranges.z) (to_z-of_z (fits c) ∙ sym (kept c))
 
 pub clipped_spec : {M : Type 1} → statement M

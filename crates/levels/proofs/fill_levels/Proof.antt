@@ -17,72 +17,72 @@ use Rattle.levels.proofs.fill_levels.Tie as tie
 abbrev value : List ℤ → List ℕ → ℕ → ℤ
 value x steps k = level (step_at steps k) (at x k)
 
-abbrev invariant-loop : tie.invariant-loop
+abbrev invariant-loop : tie.invariant-loop-k
 invariant-loop x steps out₀ k₀ k_end out k = (k ≤ length out₀) × Filled (value x steps) k out out₀
 
-abbrev decreases-loop : tie.decreases-loop
+abbrev decreases-loop : tie.decreases-loop-k
 decreases-loop x steps out₀ k₀ k_end out k = length out₀ - k
 
-loop-holds : tie.Need-loop-init invariant-loop decreases-loop
+loop-holds : tie.Need-loop-k-init invariant-loop decreases-loop
 loop-holds c = let a = c.before.args in (omega arith, filled_none (value a.x.now a.steps.now) a.out.now)
 
-mul_level : tie.Need-overflow-mul-level invariant-loop decreases-loop
+mul_level : tie.Need-offset_bounds-x-k invariant-loop decreases-loop
 mul_level c = omega arith
 
-shared_slice_copy_out_level : tie.Need-shared-slice-copy-out-level invariant-loop decreases-loop
+shared_slice_copy_out_level : tie.Need-bounds-x-k invariant-loop decreases-loop
 shared_slice_copy_out_level c = omega arith
 
-mul_level_2 : tie.Need-overflow-mul-level-2 invariant-loop decreases-loop
+mul_level_2 : tie.Need-offset_bounds-steps-k invariant-loop decreases-loop
 mul_level_2 c = omega arith
 
-shared_slice_read_level : tie.Need-shared-slice-read-level invariant-loop decreases-loop
+shared_slice_read_level : tie.Need-bounds-steps-k invariant-loop decreases-loop
 shared_slice_read_level c = let q = c.before.before.before.before.before.requires in omega (arith, q.0, q.1.0)
 
 level_requires : tie.Need-level-requires invariant-loop decreases-loop
 level_requires c κs =
     let l = c.before.before.before in
     let s = l.before.before in
-    let k = l.loop.k in (
-      rw (to_z-of_z {w = w32} (record { sfits = c.before.level-arg.given })) (s.requires.1.1.0.small k (omega arith)),
+    let k = l.loop-k.k in (
+      rw (to_z-of_z {w = w32} (record { sfits = c.before.level-arg-1.given })) (s.requires.1.1.0.small k (omega arith)),
       s.requires.1.1.1.each k (omega (arith, s.requires.0, s.requires.1.0)),
     )
 
-mul_t14 : tie.Need-overflow-mul-t14 invariant-loop decreases-loop
+mul_t14 : tie.Need-offset_bounds-out-k invariant-loop decreases-loop
 mul_t14 c = omega arith
 
-slice_set_from_out : tie.Need-slice-set-from-out invariant-loop decreases-loop
+slice_set_from_out : tie.Need-bounds-out-k invariant-loop decreases-loop
 slice_set_from_out c =
     let l = c.before.before.before.before in
-    omega (arith, l.loop.invariant.1.room, l.before.before.requires.0)
+    omega (arith, l.loop-k.invariant.1.room, l.before.before.requires.0)
 
-add_k : tie.Need-overflow-add-k invariant-loop decreases-loop
+add_k : tie.Need-overflow_step-k invariant-loop decreases-loop
 add_k c = omega arith
 
-loop-less : tie.Need-loop-smaller invariant-loop decreases-loop
+loop-less : tie.Need-loop-k-smaller invariant-loop decreases-loop
 loop-less c = omega (arith, c.before.before.before.before.before.before.requires.0)
 
-loop-again : tie.Need-loop-preserved invariant-loop decreases-loop
+loop-again : tie.Need-loop-k-preserved invariant-loop decreases-loop
 loop-again c =
     let l = c.before.before.before.before in
     let s = l.before.before in
     let a = s.args in (
       omega (arith, s.requires.0),
-      filled_more (value a.x.now a.steps.now) l.loop.k l.loop.out a.out.now _ l.loop.invariant.1
-          (omega (arith, l.loop.invariant.1.room, s.requires.0))
-          (to_z-of_z {w = w32} {z = c.level.result} (record { sfits = c.level.type-inv }) ∙ c.level.ensures
-          ∙ rw (to_z-of_z {w = w32} (record { sfits = c.before.before.level-arg.given }))),
+      filled_more (value a.x.now a.steps.now) l.loop-k.k l.loop-k.out a.out.now _ l.loop-k.invariant.1
+          (omega (arith, l.loop-k.invariant.1.room, s.requires.0))
+          (to_z-of_z {w = w32} {z = c.level.result} (record { sfits = c.level.type_inv }) ∙ c.level.ensures
+          ∙ rw (to_z-of_z {w = w32} (record { sfits = c.before.before.level-arg-1.given }))),
     )
 
-same_length : tie.Need-same-length invariant-loop decreases-loop
-same_length c = c.before.loop.invariant.1.room
+same_length : tie.Need-shape_of-out invariant-loop decreases-loop
+same_length c = c.before.loop-k.invariant.1.room
 
 returns : tie.Need-returns invariant-loop decreases-loop
 unfolding levelled
 returns c =
     let s = c.before.before.before in
     let a = s.args in
-    let e : c.before.loop.k ≡ length a.out.now = omega (arith, s.requires.0) in
-    filled-all (value a.x.now a.steps.now) (length a.out.now) c.before.loop.out a.out.now (rw e at c.before.loop.invariant.1) refl
+    let e : c.before.loop-k.k ≡ length a.out.now = omega (arith, s.requires.0) in
+    filled-all (value a.x.now a.steps.now) (length a.out.now) c.before.loop-k.out a.out.now (rw e at c.before.loop-k.invariant.1) refl
 
 pub fill_levels_spec : {M : Type 1} → statement M
 fill_levels_spec =

@@ -24,13 +24,13 @@ module _ (c : tie.Start) where
   step_is : to_z w64 c.args.step ≡ pos c.args.step
   step_is = to_z_pos w64 (omega (arith, c.requires.most))
 
-cast_result : tie.Need-overflow-cast-result
+cast_result : tie.Need-overflow_cast-result
 cast_result c = search signs
 
-cast_result_2 : tie.Need-overflow-cast-result-2
+cast_result_2 : tie.Need-overflow_cast-result-2
 cast_result_2 c = search rules
 
-mul_result : tie.Need-overflow-mul-result
+mul_result : tie.Need-overflow_mul-result
 mul_result c = rw (level-is c, step_is c) (fits c)
 
 returns : tie.Need-returns

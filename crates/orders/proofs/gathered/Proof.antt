@@ -19,17 +19,17 @@ drop-zeros m p =
     ∙ ap (drop m) (sym (replicate-append-replicate m (108 - m) (pos 0)))
     ∙ drop_at (replicate m (pos 0)) (replicate (108 - m) (pos 0)) m (length-replicate m (pos 0))
 
-room_requires : tie.Need-room-requires
+room_requires : tie.Need-room-block-requires
 room_requires c κs = search rules
 
-array_borrow_prefix_block : tie.Need-array-borrow-prefix-block
+array_borrow_prefix_block : tie.Need-slice_bounds-block-end
 array_borrow_prefix_block c = search rules
 
 -- the part of the room that is lent has m entries
-lent_long : (c : tie.After-room) → length (take c.before.args.m c.room.result) ≡ c.before.args.m
-lent_long c = length-take-le c.before.args.m c.room.result (omega (arith, c.before.requires.0, ap length c.room.ensures, length-replicate 108 (pos 0)))
+lent_long : (c : tie.After-room-block) → length (take c.before.args.m c.room-block.result) ≡ c.before.args.m
+lent_long c = length-take-le c.before.args.m c.room-block.result (omega (arith, c.before.requires.0, ap length c.room-block.ensures, length-replicate 108 (pos 0)))
 
-slice_aggregate_gather : tie.Need-slice-aggregate-gather
+slice_aggregate_gather : tie.Need-slice_bounds-gather-end
 slice_aggregate_gather c = sym (lent_long c.before)
 
 gather_requires : tie.Need-gather-requires
@@ -44,7 +44,7 @@ returns c =
     let a = r.before.args in
     ap₂ (λ (x y : List ℤ). x ++ y)
     (c.before.gather.ensures ∙ ap (λ (m : ℕ). part a.order m a.blocks a.x.now a.b) (lent_long r))
-    (ap (drop a.m) r.room.ensures ∙ drop-zeros a.m r.before.requires.0)
+    (ap (drop a.m) r.room-block.ensures ∙ drop-zeros a.m r.before.requires.0)
 
 pub gathered_spec : {M : Type 1} → statement M
 gathered_spec = tie.close (tie.spec room_requires array_borrow_prefix_block slice_aggregate_gather gather_requires returns)

@@ -5,13 +5,13 @@ use Rattle.orders.specs.Orders.{hops_in}
 use Rattle.orders.proofs.hops_in.Statement.{statement}
 use Rattle.orders.proofs.hops_in.Tie as tie
 
-returns : tie.Need-returns
+returns : tie.Need-returns-then-order-lt2
 unfolding hops_in
-returns c = rw (lt-ltb c.before.args.order 2 (omega (arith, c.if1.true)))
+returns c = rw (lt-ltb c.before.args.order 2 (omega (arith, c.if-order-lt2.true)))
 
-returns_2 : tie.Need-returns-2
+returns_2 : tie.Need-returns-else-order-lt2
 unfolding hops_in
-returns_2 c = rw (le-ltb c.before.args.order 2 (omega (arith, c.if1.false)))
+returns_2 c = rw (le-ltb c.before.args.order 2 (omega (arith, c.if-order-lt2.false)))
 
 pub hops_in_spec : {M : Type 1} → statement M
 hops_in_spec = tie.close (tie.spec returns returns_2)

@@ -18,63 +18,63 @@ use Rattle.orders.proofs.put_band.Tie as tie
 abbrev value : (m k : ℕ) → List ℤ → ℕ → ℤ
 value m k tile j = at tile (j * m + k)
 
-abbrev invariant-loop : tie.invariant-loop
+abbrev invariant-loop : tie.invariant-loop-j
 invariant-loop m k tile out₀ j₀ j_end out j = (j ≤ length out₀) × Filled (value m k tile) j out out₀
 
-abbrev decreases-loop : tie.decreases-loop
+abbrev decreases-loop : tie.decreases-loop-j
 decreases-loop m k tile out₀ j₀ j_end out j = length out₀ - j
 
-loop-holds : tie.Need-loop-init invariant-loop decreases-loop
+loop-holds : tie.Need-loop-j-init invariant-loop decreases-loop
 loop-holds c = let a = c.args in (omega arith, filled_none (value a.m a.k a.tile.now) a.out.now)
 
 -- it lies in the tile
-lies : (c : tie.In-loop invariant-loop decreases-loop) → let a = c.before.before.args in c.before.loop.j * a.m + a.k < length a.tile.now
-lies c = let s = c.before.before in let a = s.args in omega (arith, within c.before.loop.j (length a.out.now) a.m c.loop-test.true, s.requires.1, s.requires.3)
+lies : (c : tie.In-loop-j invariant-loop decreases-loop) → let a = c.before.before.args in c.before.loop-j.j * a.m + a.k < length a.tile.now
+lies c = let s = c.before.before in let a = s.args in omega (arith, within c.before.loop-j.j (length a.out.now) a.m c.loop-j-test.true, s.requires.1, s.requires.3)
 
-few : (c : tie.In-loop invariant-loop decreases-loop) → length c.before.before.args.tile.now ≤ 4096 * 108
+few : (c : tie.In-loop-j invariant-loop decreases-loop) → length c.before.before.args.tile.now ≤ 4096 * 108
 few c = let s = c.before.before in omega (arith, s.requires.3, mul-le-mul s.requires.2 s.requires.0)
 
-mul_out : tie.Need-overflow-mul-out invariant-loop decreases-loop
+mul_out : tie.Need-overflow_mul-out invariant-loop decreases-loop
 mul_out c = omega (arith, lies c, few c)
 
-add_out : tie.Need-overflow-add-out invariant-loop decreases-loop
+add_out : tie.Need-overflow_add-out invariant-loop decreases-loop
 add_out c = omega (arith, lies c, few c)
 
-mul_out_2 : tie.Need-overflow-mul-out-2 invariant-loop decreases-loop
+mul_out_2 : tie.Need-offset_bounds-tile-j invariant-loop decreases-loop
 mul_out_2 c = omega (arith, lies c, few c)
 
-shared_slice_copy_out_out : tie.Need-shared-slice-copy-out-out invariant-loop decreases-loop
+shared_slice_copy_out_out : tie.Need-bounds-tile-j invariant-loop decreases-loop
 shared_slice_copy_out_out c = omega (arith, lies c)
 
-mul_t13 : tie.Need-overflow-mul-t13 invariant-loop decreases-loop
-mul_t13 c = omega (arith, c.before.loop-test.true, c.before.before.before.requires.2)
+mul_t13 : tie.Need-offset_bounds-out-j invariant-loop decreases-loop
+mul_t13 c = omega (arith, c.before.loop-j-test.true, c.before.before.before.requires.2)
 
-slice_set_from_out : tie.Need-slice-set-from-out invariant-loop decreases-loop
-slice_set_from_out c = omega (arith, c.before.before.loop.invariant.1.room, c.before.loop-test.true)
+slice_set_from_out : tie.Need-bounds-out-j invariant-loop decreases-loop
+slice_set_from_out c = omega (arith, c.before.before.loop-j.invariant.1.room, c.before.loop-j-test.true)
 
-add_j : tie.Need-overflow-add-j invariant-loop decreases-loop
-add_j c = omega (arith, c.before.loop-test.true, c.before.before.before.requires.2)
+add_j : tie.Need-overflow_step-j invariant-loop decreases-loop
+add_j c = omega (arith, c.before.loop-j-test.true, c.before.before.before.requires.2)
 
-loop-less : tie.Need-loop-smaller invariant-loop decreases-loop
-loop-less c = omega (arith, c.before.loop-test.true)
+loop-less : tie.Need-loop-j-smaller invariant-loop decreases-loop
+loop-less c = omega (arith, c.before.loop-j-test.true)
 
-loop-again : tie.Need-loop-preserved invariant-loop decreases-loop
+loop-again : tie.Need-loop-j-preserved invariant-loop decreases-loop
 loop-again c =
     let l = c.before.before in
     let a = l.before.args in (
-      omega (arith, c.before.loop-test.true),
-      filled_more (value a.m a.k a.tile.now) l.loop.j l.loop.out a.out.now _ l.loop.invariant.1 (omega (arith, l.loop.invariant.1.room, c.before.loop-test.true))
-          (to_z-of_z {w = w32} (record { sfits = c.out.given })),
+      omega (arith, c.before.loop-j-test.true),
+      filled_more (value a.m a.k a.tile.now) l.loop-j.j l.loop-j.out a.out.now _ l.loop-j.invariant.1 (omega (arith, l.loop-j.invariant.1.room, c.before.loop-j-test.true))
+          (to_z-of_z {w = w32} (record { sfits = c.out-1.given })),
     )
 
-same_length : tie.Need-same-length invariant-loop decreases-loop
-same_length c = c.before.loop.invariant.1.room
+same_length : tie.Need-shape_of-out invariant-loop decreases-loop
+same_length c = c.before.loop-j.invariant.1.room
 
 returns : tie.Need-returns invariant-loop decreases-loop
 returns c =
     let a = c.before.before.args in
-    let e : c.before.loop.j ≡ length a.out.now = omega (arith, c.before.loop.invariant.0, c.loop-test.false) in
-    filled-all (value a.m a.k a.tile.now) (length a.out.now) c.before.loop.out a.out.now (rw e at c.before.loop.invariant.1) refl
+    let e : c.before.loop-j.j ≡ length a.out.now = omega (arith, c.before.loop-j.invariant.0, c.loop-j-test.false) in
+    filled-all (value a.m a.k a.tile.now) (length a.out.now) c.before.loop-j.out a.out.now (rw e at c.before.loop-j.invariant.1) refl
 
 pub put_band_spec : {M : Type 1} → statement M
 put_band_spec =

@@ -14,44 +14,44 @@ use Rattle.recording.specs.Recordings.{block, analysis}
 use Rattle.recording.proofs.analyse.Statement.{statement}
 use Rattle.recording.proofs.analyse.Tie as tie
 
-enum_told : tie.Need-enum-told
+enum_told : tie.Need-enum_told-1
 enum_told c = search rules
 
-add_blocks_from : tie.Need-overflow-add-blocks-from
-add_blocks_from c = omega (arith, c.before.before.requires.2)
+add_blocks_from : tie.Need-overflow_add-hops
+add_blocks_from c = omega (arith, c.before.requires.2)
 
-blocks_from_requires : tie.Need-blocks-from-requires
-blocks_from_requires c κs = let s = c.before.before.before in ((s.requires.0, s.requires.1, s.requires.2, omega arith), (s.requires.3, s.requires.4))
+blocks_from_requires : tie.Need-blocks_from-requires
+blocks_from_requires c κs = let s = c.before.before in ((s.requires.0, s.requires.1, s.requires.2, omega arith), (s.requires.3, s.requires.4))
 
-same_length : tie.Need-same-length
+same_length : tie.Need-shape_of-out-in-ByBlock
 same_length c = search rules
 
-returns : tie.Need-returns
+returns : tie.Need-returns-in-ByBlock
 unfolding analysis
 returns c =
-    let s = c.before.before.before.before.before in
+    let s = c.before.before.before.before in
     let a = s.args in
     let B = a.hops + 1 in
-    let e : a.order ≡ ByBlock = c.before.before.before.enum_told.given.1 in
+    let e : a.order ≡ ByBlock = c.before.before.before.in-ByBlock.is in
     let g : ℕ → List ℤ = λ b. coefficients a.route a.n 0 0 (block a.n a.x.now b) in
     rw e
     (c.before.blocks_from.ensures
     ∙ joined_same B (λ j. g (0 + j)) g (λ j p. ap g (let h : 0 + j ≡ j = omega arith in h))
     ∙ sym (laid-joined (a.n / 2) B g (λ b p. coefficients-length a.route a.n 0 0 (block a.n a.x.now b))))
 
-enum_told_2 : tie.Need-enum-told-2
+enum_told_2 : tie.Need-enum_told-in-ByFrequency
 enum_told_2 c = search rules
 
-analyse_by_frequency_requires : tie.Need-analyse-by-frequency-requires
+analyse_by_frequency_requires : tie.Need-analyse_by_frequency-requires
 analyse_by_frequency_requires c κs = search rules
 
-same_length_2 : tie.Need-same-length-2
+same_length_2 : tie.Need-shape_of-out-in-ByFrequency
 same_length_2 c = search rules
 
-returns_2 : tie.Need-returns-2
+returns_2 : tie.Need-returns-in-ByFrequency
 returns_2 c =
-    let e : c.before.before.before.before.before.args.order ≡ ByFrequency = c.before.before.before.enum-told2.given.1 in
-    rw e c.before.analyse-by-frequency.ensures
+    let e : c.before.before.before.before.args.order ≡ ByFrequency = c.before.before.before.in-ByFrequency.is in
+    rw e c.before.analyse_by_frequency.ensures
 
 pub analyse_spec : {M : Type 1} → statement M
 analyse_spec =

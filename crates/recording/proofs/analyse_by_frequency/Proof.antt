@@ -24,10 +24,10 @@ use Rattle.recording.proofs.analyse_by_frequency.Tie as tie
 abbrev given : Route → ℕ → List ℤ → ℕ → List ℤ
 given route n x b = coefficients route n 0 0 (block n x b)
 
-abbrev invariant-loop : tie.invariant-loop
+abbrev invariant-loop : tie.invariant-loop-b
 invariant-loop route n hops x out₀ m blocks tile₀ b₀ out tile b = (b ≤ hops + 1) × (length tile ≡ 864) × Laid (n / 2) (hops + 1) ByFrequency (given route n x) b out
 
-abbrev decreases-loop : tie.decreases-loop
+abbrev decreases-loop : tie.decreases-loop-b
 decreases-loop route n hops x out₀ m blocks tile₀ b₀ out tile b = hops + 1 - b
 
 module _ (s : tie.Start invariant-loop decreases-loop) where
@@ -44,82 +44,82 @@ module _ (s : tie.Start invariant-loop decreases-loop) where
   g = given s.args.route n s.args.x.now
 
   small : M ≤ 108
-  small = omega (arith, (tabled_length n (offered-tabled s.args.route n s.pre.0)).most)
+  small = omega (arith, (tabled_length n (offered-tabled s.args.route n s.requires.0)).most)
 
-add_blocks : tie.Need-overflow-add-blocks invariant-loop decreases-loop
+add_blocks : tie.Need-overflow_add-blocks invariant-loop decreases-loop
 add_blocks c = omega (arith, c.requires.2)
 
-tile_requires : tie.Need-tile-requires invariant-loop decreases-loop
+tile_requires : tie.Need-tile-tile-requires invariant-loop decreases-loop
 tile_requires c κs = search rules
 
-loop-holds : tie.Need-loop-init invariant-loop decreases-loop
-loop-holds c = let s = c.before in (omega arith, ap length c.tile.ensures ∙ length-replicate 864 (pos 0), laid_none (M s) (blocks s) ByFrequency (g s) s.args.out.now s.requires.4)
+loop-holds : tie.Need-loop-b-init invariant-loop decreases-loop
+loop-holds c = let s = c.before in (omega arith, ap length c.tile-tile.ensures ∙ length-replicate 864 (pos 0), laid_none (M s) (blocks s) ByFrequency (g s) s.args.out.now s.requires.4)
 
-sub_at_most_a_tile : tie.Need-overflow-sub-at-most-a-tile invariant-loop decreases-loop
-sub_at_most_a_tile c = omega (arith, c.loop-test.true)
+sub_at_most_a_tile : tie.Need-overflow_sub-blocks invariant-loop decreases-loop
+sub_at_most_a_tile c = omega (arith, c.loop-b-test.true)
 
-at_most_a_tile_requires : tie.Need-at-most-a-tile-requires invariant-loop decreases-loop
+at_most_a_tile_requires : tie.Need-at_most_a_tile-count-requires invariant-loop decreases-loop
 at_most_a_tile_requires c κs = search rules
 
 -- ---- the tile of the blocks from b on
-module _ (c : tie.After-at-most-a-tile invariant-loop decreases-loop) where
+module _ (c : tie.After-at_most_a_tile-count invariant-loop decreases-loop) where
   abbrev begin : tie.Start invariant-loop decreases-loop
   begin = c.before.before.before.before
 
   abbrev turn : ℕ
-  turn = c.before.before.loop.b
+  turn = c.before.before.loop-b.b
 
   abbrev count : ℕ
-  count = c.at-most-a-tile.result
+  count = c.at_most_a_tile-count.result
 
   count-is : count ≡ min (blocks begin - turn) 8
-  count-is = c.at-most-a-tile.ensures
+  count-is = c.at_most_a_tile-count.ensures
 
   fits : turn + count ≤ blocks begin
-  fits = omega (arith, count-is, c.before.loop-test.true)
+  fits = omega (arith, count-is, c.before.loop-b-test.true)
 
   size_few : count * M begin ≤ 8 * 108
   size_few = mul-le-mul (let h : count ≤ 8 = omega (arith, count-is) in h) (small begin)
 
-  lent_long : length (take (count * M begin) c.before.before.loop.tile) ≡ count * M begin
-  lent_long = length-take-le (count * M begin) c.before.before.loop.tile (omega (arith, size_few, c.before.before.loop.invariant.1))
+  lent_long : length (take (count * M begin) c.before.before.loop-b.tile) ≡ count * M begin
+  lent_long = length-take-le (count * M begin) c.before.before.loop-b.tile (omega (arith, size_few, c.before.before.loop-b.invariant.1))
 
   -- its blocks, in the front of the room
-  module _ (made : List ℤ) (is : made ≡ joined count (λ j. g begin (turn + j))) (same : length made ≡ length (take (count * M begin) c.before.before.loop.tile)) where
+  module _ (made : List ℤ) (is : made ≡ joined count (λ j. g begin (turn + j))) (same : length made ≡ length (take (count * M begin) c.before.before.loop-b.tile)) where
     abbrev filled : List ℤ
-    filled = made ++ drop (count * M begin) c.before.before.loop.tile
+    filled = made ++ drop (count * M begin) c.before.before.loop-b.tile
 
     front : take (count * M begin) filled ≡ made
-    front = take_at made (drop (count * M begin) c.before.before.loop.tile) (count * M begin) (same ∙ lent_long)
+    front = take_at made (drop (count * M begin) c.before.before.loop-b.tile) (count * M begin) (same ∙ lent_long)
 
     filled_long : length filled ≡ 864
     filled_long =
-        length-append made (drop (count * M begin) c.before.before.loop.tile)
-        ∙ omega (arith, same, lent_long, length-drop (count * M begin) c.before.before.loop.tile, c.before.before.loop.invariant.1, size_few)
+        length-append made (drop (count * M begin) c.before.before.loop-b.tile)
+        ∙ omega (arith, same, lent_long, length-drop (count * M begin) c.before.before.loop-b.tile, c.before.before.loop-b.invariant.1, size_few)
 
-mul_size : tie.Need-overflow-mul-size invariant-loop decreases-loop
-mul_size c = omega (arith, size_few c)
+mul_size : tie.Need-overflow_mul-size invariant-loop decreases-loop
+mul_size c = let s : tie.Start invariant-loop decreases-loop = c.before.before.before.before in let h : c.at_most_a_tile-count.result ≤ 8 = omega (arith, c.at_most_a_tile-count.ensures) in omega (arith, mul-le-mul h (small s))
 
-array_borrow_prefix_tile : tie.Need-array-borrow-prefix-tile invariant-loop decreases-loop
-array_borrow_prefix_tile c = omega (arith, size_few c, c.before.before.loop.invariant.1)
+array_borrow_prefix_tile : tie.Need-slice_bounds-tile-end invariant-loop decreases-loop
+array_borrow_prefix_tile c = omega (arith, size_few c, c.before.before.loop-b.invariant.1)
 
-slice_aggregate_blocks_from : tie.Need-slice-aggregate-blocks-from invariant-loop decreases-loop
+slice_aggregate_blocks_from : tie.Need-slice_bounds-blocks_from-end invariant-loop decreases-loop
 slice_aggregate_blocks_from c = sym (lent_long c.before)
 
-blocks_from_requires : tie.Need-blocks-from-requires invariant-loop decreases-loop
-blocks_from_requires c κs = let t = c.before in let s = begin t in ((s.pre.0, s.pre.1, s.pre.2, fits t), (s.pre.3, lent_long t))
+blocks_from_requires : tie.Need-blocks_from-requires invariant-loop decreases-loop
+blocks_from_requires c κs = let t = c.before in let s = begin t in ((s.requires.0, s.requires.1, s.requires.2, fits t), (s.requires.3, lent_long t))
 
-array_share_prefix_tile : tie.Need-array-share-prefix-tile invariant-loop decreases-loop
+array_share_prefix_tile : tie.Need-slice_bounds-tile-end-in-loop-b invariant-loop decreases-loop
 array_share_prefix_tile c =
     let t = c.before.before.before in
     let y = c.before.blocks_from in
-    omega (arith, filled_long t y.new.1.1.1.1.1.1.0 y.ensures y.auto.1.1.1.1.1.1.0, size_few t)
+    omega (arith, filled_long t y.new.out y.ensures y.auto.out, size_few t)
 
-slice_aggregate_scatter : tie.Need-slice-aggregate-scatter invariant-loop decreases-loop
+slice_aggregate_scatter : tie.Need-slice_bounds-scatter-end invariant-loop decreases-loop
 slice_aggregate_scatter c =
     let t = c.before.before.before.before in
     let y = c.before.before.blocks_from in
-    sym (ap length (front t y.new.1.1.1.1.1.1.0 y.ensures y.auto.1.1.1.1.1.1.0) ∙ y.auto.1.1.1.1.1.1.0 ∙ lent_long t)
+    sym (ap length (front t y.new.out y.ensures y.auto.out) ∙ y.auto.out ∙ lent_long t)
 
 scatter_requires : tie.Need-scatter-requires invariant-loop decreases-loop
 scatter_requires c κs =
@@ -127,41 +127,41 @@ scatter_requires c κs =
     let s = begin t in
     let y = c.before.before.before.blocks_from in (
       small s,
-      omega (arith, s.pre.2),
+      omega (arith, s.requires.2),
       omega (arith, fits t),
-      ap length (front t y.new.1.1.1.1.1.1.0 y.ensures y.auto.1.1.1.1.1.1.0) ∙ y.auto.1.1.1.1.1.1.0 ∙ lent_long t,
-      t.before.before.loop.invariant.2.long,
+      ap length (front t y.new.out y.ensures y.auto.out) ∙ y.auto.out ∙ lent_long t,
+      t.before.before.loop-b.invariant.2.long,
     )
 
-add_b : tie.Need-overflow-add-b invariant-loop decreases-loop
+add_b : tie.Need-overflow_add-b invariant-loop decreases-loop
 add_b c = let t = c.before.before.before.before.before.before.before in omega (arith, fits t, (begin t).requires.2)
 
-loop-less : tie.Need-loop-smaller invariant-loop decreases-loop
-loop-less c = let t = c.before.before.before.before.before.before.before in omega (arith, count-is t, t.before.loop-test.true)
+loop-less : tie.Need-loop-b-smaller invariant-loop decreases-loop
+loop-less c = let t = c.before.before.before.before.before.before.before in omega (arith, count-is t, t.before.loop-b-test.true)
 
-loop-again : tie.Need-loop-preserved invariant-loop decreases-loop
+loop-again : tie.Need-loop-b-preserved invariant-loop decreases-loop
 loop-again c =
     let t = c.before.before.before.before.before.before.before in
     let s = begin t in
     let y = c.before.before.before.before.before.blocks_from in
-    let made = y.new.1.1.1.1.1.1.0 in
-    let k = y.auto.1.1.1.1.1.1.0 in
-    let out = t.before.before.loop.out in (
+    let made = y.new.out in
+    let k = y.auto.out in
+    let out = t.before.before.loop-b.out in (
       omega (arith, fits t),
       filled_long t made y.ensures k,
       rw (c.before.scatter.ensures ∙ ap (λ (l : List ℤ). tiled ByFrequency (M s) (blocks s) (turn t) (count t) l out) (front t made y.ensures k ∙ y.ensures))
-          (laid_tile (M s) (blocks s) ByFrequency (g s) (turn t) (count t) out (fits t) (λ b p. coefficients-length s.args.route (n s) 0 0 (block (n s) s.args.x.now b)) t.before.before.loop.invariant.2),
+          (laid_tile (M s) (blocks s) ByFrequency (g s) (turn t) (count t) out (fits t) (λ b p. coefficients-length s.args.route (n s) 0 0 (block (n s) s.args.x.now b)) t.before.before.loop-b.invariant.2),
     )
 
-same_length : tie.Need-same-length invariant-loop decreases-loop
-same_length c = c.before.loop.invariant.2.long ∙ sym c.before.before.before.requires.4
+same_length : tie.Need-shape_of-out invariant-loop decreases-loop
+same_length c = c.before.loop-b.invariant.2.long ∙ sym c.before.before.before.requires.4
 
 returns : tie.Need-returns invariant-loop decreases-loop
 unfolding analysis
 returns c =
     let s = c.before.before.before in
-    let e : c.before.loop.b ≡ blocks s = omega (arith, c.before.loop.invariant.0, c.loop-test.false) in
-    laid-all (M s) (blocks s) ByFrequency (g s) c.before.loop.out (rw e at c.before.loop.invariant.2)
+    let e : c.before.loop-b.b ≡ blocks s = omega (arith, c.before.loop-b.invariant.0, c.loop-b-test.false) in
+    laid-all (M s) (blocks s) ByFrequency (g s) c.before.loop-b.out (rw e at c.before.loop-b.invariant.2)
 
 pub analyse_by_frequency_spec : {M : Type 1} → statement M
 analyse_by_frequency_spec =

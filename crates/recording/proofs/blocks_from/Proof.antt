@@ -21,16 +21,16 @@ use Rattle.recording.proofs.blocks_from.Tie as tie
 abbrev given : Route → ℕ → List ℤ → ℕ → ℕ → List ℤ
 given route n x first j = coefficients route n 0 0 (block n x (first + j))
 
-abbrev invariant-loop : tie.invariant-loop
+abbrev invariant-loop : tie.invariant-loop-j
 invariant-loop route n hops x first count out₀ m j₀ out j = (j ≤ count) × Joined (given route n x first) (n / 2) j out out₀
 
-abbrev decreases-loop : tie.decreases-loop
+abbrev decreases-loop : tie.decreases-loop-j
 decreases-loop route n hops x first count out₀ m j₀ out j = count - j
 
-loop-holds : tie.Need-loop-init invariant-loop decreases-loop
+loop-holds : tie.Need-loop-j-init invariant-loop decreases-loop
 loop-holds c = let a = c.args in (omega arith, joined-none (given a.route a.n a.x.now a.first) (a.n / 2) a.out.now)
 
-module _ (c : tie.In-loop invariant-loop decreases-loop) where
+module _ (c : tie.In-loop-j invariant-loop decreases-loop) where
   abbrev start : tie.Start invariant-loop decreases-loop
   start = c.before.before
 
@@ -38,58 +38,58 @@ module _ (c : tie.In-loop invariant-loop decreases-loop) where
   M = start.args.n / 2
 
   abbrev j : ℕ
-  j = c.before.loop.j
+  j = c.before.loop-j.j
 
   -- where block j lies
-  ends_here : j * M + M ≤ length c.before.loop.out
-  ends_here = omega (arith, within j start.args.count M c.loop-test.true, start.pre.1.1, c.before.loop.invariant.1.room)
+  ends_here : j * M + M ≤ length c.before.loop-j.out
+  ends_here = omega (arith, within j start.args.count M c.loop-j-test.true, start.requires.1.1, c.before.loop-j.invariant.1.room)
 
-  few : length c.before.loop.out ≤ 4096 * 108
+  few : length c.before.loop-j.out ≤ 4096 * 108
   few =
       let s = start in
       omega (
         arith,
-        s.pre.1.1,
-        c.before.loop.invariant.1.room,
-        mul-le-mul (let h : s.args.count ≤ 4096 = omega (arith, s.pre.0.3, s.pre.0.2) in h)
-            (let h : M ≤ 108 = omega (arith, (tabled_length s.args.n (offered-tabled s.args.route s.args.n s.pre.0.0)).most) in h),
+        s.requires.1.1,
+        c.before.loop-j.invariant.1.room,
+        mul-le-mul (let h : s.args.count ≤ 4096 = omega (arith, s.requires.0.3, s.requires.0.2) in h)
+            (let h : M ≤ 108 = omega (arith, (tabled_length s.args.n (offered-tabled s.args.route s.args.n s.requires.0.0)).most) in h),
       )
 
-mul_at : tie.Need-overflow-mul-at invariant-loop decreases-loop
+mul_at : tie.Need-overflow_mul-at invariant-loop decreases-loop
 mul_at c = omega (arith, ends_here c, few c)
 
-add_block_at : tie.Need-overflow-add-block-at invariant-loop decreases-loop
-add_block_at c = let s = start c in omega (arith, c.loop-test.true, s.pre.0.3, s.pre.0.2)
+add_block_at : tie.Need-overflow_add-first invariant-loop decreases-loop
+add_block_at c = let s = start c in omega (arith, c.loop-j-test.true, s.requires.0.3, s.requires.0.2)
 
-add_block_at_2 : tie.Need-overflow-add-block-at-2 invariant-loop decreases-loop
+add_block_at_2 : tie.Need-overflow_add-at invariant-loop decreases-loop
 add_block_at_2 c = omega (arith, ends_here c, few c)
 
-mul_block_at : tie.Need-overflow-mul-block-at invariant-loop decreases-loop
+mul_block_at : tie.Need-offset_bounds-out-at invariant-loop decreases-loop
 mul_block_at c = omega (arith, ends_here c, few c)
 
-sub_block_at : tie.Need-overflow-sub-block-at invariant-loop decreases-loop
+sub_block_at : tie.Need-slice_bounds-block_at-count invariant-loop decreases-loop
 sub_block_at c = omega (arith, ends_here c, few c)
 
-part_block_at_start : tie.Need-slice-bounds-block-at-start invariant-loop decreases-loop
+part_block_at_start : tie.Need-slice_bounds-block_at-start invariant-loop decreases-loop
 part_block_at_start c = omega (arith, ends_here c, few c)
 
-part_block_at_end : tie.Need-slice-bounds-block-at-end invariant-loop decreases-loop
+part_block_at_end : tie.Need-slice_bounds-block_at-end invariant-loop decreases-loop
 part_block_at_end c = omega (arith, ends_here c, few c)
 
-block_at_requires : tie.Need-block-at-requires invariant-loop decreases-loop
+block_at_requires : tie.Need-block_at-requires invariant-loop decreases-loop
 block_at_requires c κs =
     let i = c.before in
     let s = start i in
     let at = j i * M i in
-    ((s.pre.0.0, s.pre.0.1, s.pre.0.2, omega (arith, i.loop-test.true, s.pre.0.3)), (s.pre.1.0, part_length i.before.loop.out at (at + M i - at) (M i) (omega arith) (ends_here i)))
+    ((s.requires.0.0, s.requires.0.1, s.requires.0.2, omega (arith, i.loop-j-test.true, s.requires.0.3)), (s.requires.1.0, part_length i.before.loop-j.out at (at + M i - at) (M i) (omega arith) (ends_here i)))
 
-add_j : tie.Need-overflow-add-j invariant-loop decreases-loop
-add_j c = let i = c.before.before.before in omega (arith, i.loop-test.true, (start i).requires.0.3, (start i).requires.0.2)
+add_j : tie.Need-overflow_step-j invariant-loop decreases-loop
+add_j c = let i = c.before.before.before in omega (arith, i.loop-j-test.true, (start i).requires.0.3, (start i).requires.0.2)
 
-loop-less : tie.Need-loop-smaller invariant-loop decreases-loop
-loop-less c = omega (arith, c.before.before.before.loop-test.true)
+loop-less : tie.Need-loop-j-smaller invariant-loop decreases-loop
+loop-less c = omega (arith, c.before.before.before.loop-j-test.true)
 
-loop-again : tie.Need-loop-preserved invariant-loop decreases-loop
+loop-again : tie.Need-loop-j-preserved invariant-loop decreases-loop
 loop-again c =
     let i = c.before.before.before in
     let s = start i in
@@ -97,21 +97,21 @@ loop-again c =
     let at = j i * M i in
     let g = given a.route a.n a.x.now a.first in
     let y = c.before.block_at in (
-      omega (arith, i.loop-test.true),
-      joined-more g (M i) a.count (λ k p. coefficients-length a.route a.n 0 0 (block a.n a.x.now (a.first + k))) (j i) (at + M i - at) i.loop-test.true i.before.loop.out a.out.now
-          y.new.1.1.1.1.1.0 i.before.loop.invariant.1 (omega (arith, ends_here i, i.before.loop.invariant.1.room)) (omega arith) y.ensures,
+      omega (arith, i.loop-j-test.true),
+      joined-more g (M i) a.count (λ k p. coefficients-length a.route a.n 0 0 (block a.n a.x.now (a.first + k))) (j i) (at + M i - at) i.loop-j-test.true i.before.loop-j.out a.out.now
+          y.new.out i.before.loop-j.invariant.1 (omega (arith, ends_here i, i.before.loop-j.invariant.1.room)) (omega arith) y.ensures,
     )
 
-same_length : tie.Need-same-length invariant-loop decreases-loop
-same_length c = c.before.loop.invariant.1.room
+same_length : tie.Need-shape_of-out invariant-loop decreases-loop
+same_length c = c.before.loop-j.invariant.1.room
 
 returns : tie.Need-returns invariant-loop decreases-loop
 returns c =
     let s = c.before.before in
     let a = s.args in
     let g = given a.route a.n a.x.now a.first in
-    let e : c.before.loop.j ≡ a.count = omega (arith, c.before.loop.invariant.0, c.loop-test.false) in
-    joined-all g (a.n / 2) c.before.loop.j c.before.loop.out a.out.now c.before.loop.invariant.1 (s.requires.1.1 ∙ ap (λ (k : ℕ). k * (a.n / 2)) (sym e)) ∙ ap (λ (k : ℕ). joined k g) e
+    let e : c.before.loop-j.j ≡ a.count = omega (arith, c.before.loop-j.invariant.0, c.loop-j-test.false) in
+    joined-all g (a.n / 2) c.before.loop-j.j c.before.loop-j.out a.out.now c.before.loop-j.invariant.1 (s.requires.1.1 ∙ ap (λ (k : ℕ). k * (a.n / 2)) (sym e)) ∙ ap (λ (k : ℕ). joined k g) e
 
 pub blocks_from_spec : {M : Type 1} → statement M
 blocks_from_spec =

@@ -19,83 +19,83 @@ use borrow.Author.Rules.{rules}
 use Rattle.recording_calls.proofs.analyse_recording.Statement.{statement}
 use Rattle.recording_calls.proofs.analyse_recording.Tie as tie
 
-is_offered_requires : tie.Need-is-offered-requires
+is_offered_requires : tie.Need-is_offered-requires
 is_offered_requires c κs = search rules
 
 -- what the tests say
-good : (c : tie.Else1) → offered c.before.before.args.route c.before.before.args.n ≡ true
-good c = sym c.before.is-offered.ensures ∙ not-false c.before.is-offered.result c.if1.false
+good : (c : tie.Else-not-is_offered) → offered c.before.before.args.route c.before.before.args.n ≡ true
+good c = sym c.before.is_offered.ensures ∙ not-false c.before.is_offered.result c.if-not-is_offered.false-raw
 
-returns : tie.Need-returns
+returns : tie.Need-returns-then-not-is_offered
 unfolding recorded_causes
 returns c =
     let a = c.before.before.args in
-    recorded_answer a.route a.order a.n a.hops a.x.now a.out.now (stop (sym c.before.is-offered.ensures ∙ not-true c.before.is-offered.result c.if1.true))
+    recorded_answer a.route a.order a.n a.hops a.x.now a.out.now (stop (sym c.before.is_offered.ensures ∙ not-true c.before.is_offered.result c.if-not-is_offered.true-raw))
 
-is_counted_requires : tie.Need-is-counted-requires
+is_counted_requires : tie.Need-is_counted-requires
 is_counted_requires c κs = search rules
 
-returns_2 : tie.Need-returns-2
+returns_2 : tie.Need-returns-then-not-is_counted
 unfolding recorded_causes
 returns_2 c =
     let a = c.before.before.before.before.args in
     recorded_answer a.route a.order a.n a.hops a.x.now a.out.now
-    (pass (good c.before.before) (stop (sym c.before.is-counted.ensures ∙ not-true c.before.is-counted.result c.if2.true)))
+    (pass (good c.before.before) (stop (sym c.before.is_counted.ensures ∙ not-true c.before.is_counted.result c.if-not-is_counted.true-raw)))
 
-few : (c : tie.Else2) → counted c.before.before.before.before.args.hops ≡ true
-few c = sym c.before.is-counted.ensures ∙ not-false c.before.is-counted.result c.if2.false
+few : (c : tie.Else-not-is_counted) → counted c.before.before.before.before.args.hops ≡ true
+few c = sym c.before.is_counted.ensures ∙ not-false c.before.is_counted.result c.if-not-is_counted.false-raw
 
-tab : (c : tie.Else2) → T (tabled c.before.before.before.before.args.n)
+tab : (c : tie.Else-not-is_counted) → T (tabled c.before.before.before.before.args.n)
 tab c = let a = c.before.before.before.before.args in offered-tabled a.route a.n (is_T (good c.before.before))
 
-most : (c : tie.Else2) → c.before.before.before.before.args.hops ≤ 4095
+most : (c : tie.Else-not-is_counted) → c.before.before.before.before.args.hops ≤ 4095
 most c = counted-most c.before.before.before.before.args.hops (few c)
 
-add_blocks : tie.Need-overflow-add-blocks
+add_blocks : tie.Need-overflow_add-blocks
 add_blocks c = omega (arith, most c)
 
-mul_if3 : tie.Need-overflow-mul-if3
+mul_if3 : tie.Need-overflow_mul-hops
 mul_if3 c =
     let a = c.before.before.before.before.args in
     omega (arith, places_few a.n (tab c) (a.hops + 1) (omega (arith, most c)))
 
-returns_3 : tie.Need-returns-3
+returns_3 : tie.Need-returns-then-x-hops
 unfolding recorded_causes
 returns_3 c =
     let e = c.before in
     let a = e.before.before.before.before.args in
     recorded_answer a.route a.order a.n a.hops a.x.now a.out.now
-    (pass (good e.before.before) (pass (few e) (differs c.if3.true)))
+    (pass (good e.before.before) (pass (few e) (differs c.if-x-hops.true)))
 
-mul_if4 : tie.Need-overflow-mul-if4
+mul_if4 : tie.Need-overflow_mul-blocks
 mul_if4 c = search rules
 
-returns_4 : tie.Need-returns-4
+returns_4 : tie.Need-returns-then-out-blocks
 unfolding recorded_causes
 returns_4 c =
     let e = c.before.before in
     let a = e.before.before.before.before.args in
     recorded_answer a.route a.order a.n a.hops a.x.now a.out.now
-    (pass (good e.before.before) (pass (few e) (same c.before.if3.false (differs c.if4.true))))
+    (pass (good e.before.before) (pass (few e) (same c.before.if-x-hops.false (differs c.if-out-blocks.true))))
 
 analyse_requires : tie.Need-analyse-requires
 analyse_requires c κs =
     let f = c.before in
     let e = f.before.before in
     let a = e.before.before.before.before.args in
-    (is_T (good e.before.before), counted-some a.hops (few e), most e, f.before.if3.false, f.if4.false)
+    (is_T (good e.before.before), counted-some a.hops (few e), most e, f.before.if-x-hops.false, f.if-out-blocks.false)
 
-same_length : tie.Need-same-length
+same_length : tie.Need-shape_of-out
 same_length c = search rules
 
-returns_5 : tie.Need-returns-5
+returns_5 : tie.Need-returns
 unfolding recorded_causes
 returns_5 c =
     let f = c.before.before.before in
     let e = f.before.before in
     let a = e.before.before.before.before.args in
     let t = recorded_answer a.route a.order a.n a.hops a.x.now a.out.now
-    (pass (good e.before.before) (pass (few e) (same f.before.if3.false (same f.if4.false none)))) in
+    (pass (good e.before.before) (pass (few e) (same f.before.if-x-hops.false (same f.if-out-blocks.false none)))) in
     (t.0, c.before.analyse.ensures ∙ t.1)
 
 pub analyse_recording_spec : {M : Type 1} → statement M

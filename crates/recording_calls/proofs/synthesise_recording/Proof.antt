@@ -16,94 +16,94 @@ use borrow.Author.Rules.{rules}
 use Rattle.recording_calls.proofs.synthesise_recording.Statement.{statement}
 use Rattle.recording_calls.proofs.synthesise_recording.Tie as tie
 
-is_tabled_requires : tie.Need-is-tabled-requires
+is_tabled_requires : tie.Need-is_tabled-requires
 is_tabled_requires c κs = search rules
 
 -- what the tests say
-good : (c : tie.Else1) → tabled c.before.before.args.n ≡ true
-good c = sym c.before.is-tabled.ensures ∙ not-false c.before.is-tabled.result c.if1.false
+good : (c : tie.Else-not-is_tabled) → tabled c.before.before.args.n ≡ true
+good c = sym c.before.is_tabled.ensures ∙ not-false c.before.is_tabled.result c.if-not-is_tabled.false-raw
 
-returns : tie.Need-returns
+returns : tie.Need-returns-then-not-is_tabled
 unfolding played_causes
 returns c =
     let a = c.before.before.args in
-    played_answer a.order a.n a.hops a.x.now a.out.now (stop (sym c.before.is-tabled.ensures ∙ not-true c.before.is-tabled.result c.if1.true))
+    played_answer a.order a.n a.hops a.x.now a.out.now (stop (sym c.before.is_tabled.ensures ∙ not-true c.before.is_tabled.result c.if-not-is_tabled.true-raw))
 
-is_counted_requires : tie.Need-is-counted-requires
+is_counted_requires : tie.Need-is_counted-requires
 is_counted_requires c κs = search rules
 
-returns_2 : tie.Need-returns-2
+returns_2 : tie.Need-returns-then-not-is_counted
 unfolding played_causes
 returns_2 c =
     let a = c.before.before.before.before.args in
     played_answer a.order a.n a.hops a.x.now a.out.now
-    (pass (good c.before.before) (stop (sym c.before.is-counted.ensures ∙ not-true c.before.is-counted.result c.if2.true)))
+    (pass (good c.before.before) (stop (sym c.before.is_counted.ensures ∙ not-true c.before.is_counted.result c.if-not-is_counted.true-raw)))
 
-few : (c : tie.Else2) → counted c.before.before.before.before.args.hops ≡ true
-few c = sym c.before.is-counted.ensures ∙ not-false c.before.is-counted.result c.if2.false
+few : (c : tie.Else-not-is_counted) → counted c.before.before.before.before.args.hops ≡ true
+few c = sym c.before.is_counted.ensures ∙ not-false c.before.is_counted.result c.if-not-is_counted.false-raw
 
-tab : (c : tie.Else2) → T (tabled c.before.before.before.before.args.n)
+tab : (c : tie.Else-not-is_counted) → T (tabled c.before.before.before.before.args.n)
 tab c = rw (good c.before.before) tt
 
-most : (c : tie.Else2) → c.before.before.before.before.args.hops ≤ 4095
+most : (c : tie.Else-not-is_counted) → c.before.before.before.before.args.hops ≤ 4095
 most c = counted-most c.before.before.before.before.args.hops (few c)
 
-add_count : tie.Need-overflow-add-count
+add_count : tie.Need-overflow_add-count
 add_count c = omega (arith, most c)
 
-mul_count : tie.Need-overflow-mul-count
+mul_count : tie.Need-overflow_mul-count
 mul_count c =
     let a = c.before.before.before.before.args in
     omega (arith, places_few a.n (tab c) (a.hops + 1) (omega (arith, most c)))
 
-returns_3 : tie.Need-returns-3
+returns_3 : tie.Need-returns-then-x-count
 unfolding played_causes
 returns_3 c =
     let e = c.before in
     let a = e.before.before.before.before.args in
-    played_answer a.order a.n a.hops a.x.now a.out.now (pass (good e.before.before) (pass (few e) (differs c.if3.true)))
+    played_answer a.order a.n a.hops a.x.now a.out.now (pass (good e.before.before) (pass (few e) (differs c.if-x-count.true)))
 
-mul_if4 : tie.Need-overflow-mul-if4
+mul_if4 : tie.Need-overflow_mul-hops
 mul_if4 c = search rules
 
-returns_4 : tie.Need-returns-4
+returns_4 : tie.Need-returns-then-out-hops
 unfolding played_causes
 returns_4 c =
     let e = c.before.before in
     let a = e.before.before.before.before.args in
     played_answer a.order a.n a.hops a.x.now a.out.now
-    (pass (good e.before.before) (pass (few e) (same c.before.if3.false (differs c.if4.true))))
+    (pass (good e.before.before) (pass (few e) (same c.before.if-x-count.false (differs c.if-out-hops.true))))
 
-in_range_requires : tie.Need-in-range-requires
+in_range_requires : tie.Need-in_range-requires
 in_range_requires c κs =
     let e = c.before.before in
     let a = e.before.before.before.before.args in
     (search rules, block_sixes a.n (tab e) (a.hops + 1))
 
-returns_5 : tie.Need-returns-5
+returns_5 : tie.Need-returns-then-not-in_range
 unfolding played_causes
 returns_5 c =
     let f = c.before.before in
     let e = f.before.before in
     let a = e.before.before.before.before.args in
     played_answer a.order a.n a.hops a.x.now a.out.now
-    (pass (good e.before.before) (pass (few e) (same f.before.if3.false (same f.if4.false
-    (stop (sym c.before.in_range.ensures ∙ not-true c.before.in_range.result c.if5.true))))))
+    (pass (good e.before.before) (pass (few e) (same f.before.if-x-count.false (same f.if-out-hops.false
+    (stop (sym c.before.in_range.ensures ∙ not-true c.before.in_range.result c.if-not-in_range.true-raw))))))
 
-ranged : (c : tie.Else5) → let a = c.before.before.before.before.before.before.before.before.args in in_range ((a.hops + 1) * (a.n / 2)) a.x.now ≡ true
-ranged c = sym c.before.in_range.ensures ∙ not-false c.before.in_range.result c.if5.false
+ranged : (c : tie.Else-not-in_range) → let a = c.before.before.before.before.before.before.before.before.args in in_range ((a.hops + 1) * (a.n / 2)) a.x.now ≡ true
+ranged c = sym c.before.in_range.ensures ∙ not-false c.before.in_range.result c.if-not-in_range.false-raw
 
 synthesise_requires : tie.Need-synthesise-requires
 synthesise_requires c κs =
     let f = c.before.before.before in
     let e = f.before.before in
     let a = e.before.before.before.before.args in
-    ((tab e, counted-some a.hops (few e), most e, range_small a.x.now ((a.hops + 1) * (a.n / 2)) f.before.if3.false (ranged c.before)), (f.before.if3.false, f.if4.false))
+    ((tab e, counted-some a.hops (few e), most e, range_small a.x.now ((a.hops + 1) * (a.n / 2)) f.before.if-x-count.false (ranged c.before)), (f.before.if-x-count.false, f.if-out-hops.false))
 
-same_length : tie.Need-same-length
+same_length : tie.Need-shape_of-out
 same_length c = search rules
 
-returns_6 : tie.Need-returns-6
+returns_6 : tie.Need-returns
 unfolding played_causes
 returns_6 c =
     let g = c.before.before.before in
@@ -111,7 +111,7 @@ returns_6 c =
     let e = f.before.before in
     let a = e.before.before.before.before.args in
     let t = played_answer a.order a.n a.hops a.x.now a.out.now
-    (pass (good e.before.before) (pass (few e) (same f.before.if3.false (same f.if4.false (pass (ranged g) none))))) in
+    (pass (good e.before.before) (pass (few e) (same f.before.if-x-count.false (same f.if-out-hops.false (pass (ranged g) none))))) in
     (t.0, c.before.synthesise.ensures ∙ t.1)
 
 pub synthesise_recording_spec : {M : Type 1} → statement M

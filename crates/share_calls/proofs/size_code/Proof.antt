@@ -17,7 +17,7 @@ use borrow.Author.Rules.{rules}
 use Rattle.share_calls.proofs.size_code.Statement.{statement}
 use Rattle.share_calls.proofs.size_code.Tie as tie
 
-is_tabled_requires : tie.Need-is-tabled-requires
+is_tabled_requires : tie.Need-is_tabled-requires
 is_tabled_requires c κs = search rules
 
 -- what is handed in
@@ -32,13 +32,13 @@ module _ (s : tie.Start) where
   first = s.args.first.now
 
   abbrev first' : List ℤ
-  first' = s.args.first-changed.now
+  first' = s.args.first_changed.now
 
   abbrev second : List ℤ
   second = s.args.second.now
 
   abbrev second' : List ℤ
-  second' = s.args.second-changed.now
+  second' = s.args.second_changed.now
 
   abbrev place : ℕ
   place = s.args.place
@@ -48,54 +48,54 @@ module _ (s : tie.Start) where
   answer f = sym (first_is (size_causes n shape first first' second second' place) f)
 
 -- ---- what the tests say
-abbrev start : tie.Else1 → tie.Start
+abbrev start : tie.Else-not-is_tabled → tie.Start
 start c = c.before.before
 
-good : (c : tie.Else1) → tabled (n (start c)) ≡ true
-good c = sym c.before.is-tabled.ensures ∙ not-false c.before.is-tabled.result c.if1.false
+good : (c : tie.Else-not-is_tabled) → tabled (n (start c)) ≡ true
+good c = sym c.before.is_tabled.ensures ∙ not-false c.before.is_tabled.result c.if-not-is_tabled.false-raw
 
-shaped : (c : tie.Else2) → leb (shape (start c.before)) 1 ≡ true
-shaped c = le-leb (shape (start c.before)) 1 (omega (arith, c.if2.false))
+shaped : (c : tie.Else-shape-gt1) → leb (shape (start c.before)) 1 ≡ true
+shaped c = le-leb (shape (start c.before)) 1 (omega (arith, c.if-shape-gt1.false))
 
-is_3 : (c : tie.Else3) → let s = start c.before.before in length (first s) ≡ n s / 2
-is_3 c = omega (arith, c.if3.false)
+is_3 : (c : tie.Else-first-m) → let s = start c.before.before in length (first s) ≡ n s / 2
+is_3 c = omega (arith, c.if-first-m.false)
 
-is_4 : (c : tie.Else4) → let s = start c.before.before.before in length (first' s) ≡ n s / 2
-is_4 c = omega (arith, c.if4.false)
+is_4 : (c : tie.Else-first_changed-m) → let s = start c.before.before.before in length (first' s) ≡ n s / 2
+is_4 c = omega (arith, c.if-first_changed-m.false)
 
-is_5 : (c : tie.Else5) → let s = start c.before.before.before.before in length (second s) ≡ n s / 2
-is_5 c = omega (arith, c.if5.false)
+is_5 : (c : tie.Else-second-m) → let s = start c.before.before.before.before in length (second s) ≡ n s / 2
+is_5 c = omega (arith, c.if-second-m.false)
 
-is_6 : (c : tie.Else6) → let s = start c.before.before.before.before.before in length (second' s) ≡ n s / 2
-is_6 c = omega (arith, c.if6.false)
+is_6 : (c : tie.Else-second_changed-m) → let s = start c.before.before.before.before.before in length (second' s) ≡ n s / 2
+is_6 c = omega (arith, c.if-second_changed-m.false)
 
 -- ---- the answers
-returns : tie.Need-returns
+returns : tie.Need-returns-then-not-is_tabled
 unfolding size_causes
-returns c = answer c.before.before (stop (sym c.before.is-tabled.ensures ∙ not-true c.before.is-tabled.result c.if1.true))
+returns c = answer c.before.before (stop (sym c.before.is_tabled.ensures ∙ not-true c.before.is_tabled.result c.if-not-is_tabled.true-raw))
 
-returns_2 : tie.Need-returns-2
+returns_2 : tie.Need-returns-then-shape-gt1
 unfolding size_causes
-returns_2 c = let e = c.before in answer (start e) (pass (good e) (stop (lt-leb (shape (start e)) 1 (omega (arith, c.if2.true)))))
+returns_2 c = let e = c.before in answer (start e) (pass (good e) (stop (lt-leb (shape (start e)) 1 (omega (arith, c.if-shape-gt1.true)))))
 
-returns_3 : tie.Need-returns-3
+returns_3 : tie.Need-returns-then-first-m
 unfolding size_causes
 returns_3 c =
     let d = c.before in
     let e = d.before in
     let s = start e in
-    answer s (pass (good e) (pass (shaped d) (differs (λ (l : length (first s) ≡ n s / 2). c.if3.true (omega (arith, l))))))
+    answer s (pass (good e) (pass (shaped d) (differs (λ (l : length (first s) ≡ n s / 2). c.if-first-m.true (omega (arith, l))))))
 
-returns_4 : tie.Need-returns-4
+returns_4 : tie.Need-returns-then-first_changed-m
 unfolding size_causes
 returns_4 c =
     let h3 = c.before in
     let d = h3.before in
     let e = d.before in
     let s = start e in
-    answer s (pass (good e) (pass (shaped d) (same (is_3 h3) (differs (λ (l : length (first' s) ≡ n s / 2). c.if4.true (omega (arith, l)))))))
+    answer s (pass (good e) (pass (shaped d) (same (is_3 h3) (differs (λ (l : length (first' s) ≡ n s / 2). c.if-first_changed-m.true (omega (arith, l)))))))
 
-returns_5 : tie.Need-returns-5
+returns_5 : tie.Need-returns-then-second-m
 unfolding size_causes
 returns_5 c =
     let h4 = c.before in
@@ -103,9 +103,9 @@ returns_5 c =
     let d = h3.before in
     let e = d.before in
     let s = start e in
-    answer s (pass (good e) (pass (shaped d) (same (is_3 h3) (same (is_4 h4) (differs (λ (l : length (second s) ≡ n s / 2). c.if5.true (omega (arith, l))))))))
+    answer s (pass (good e) (pass (shaped d) (same (is_3 h3) (same (is_4 h4) (differs (λ (l : length (second s) ≡ n s / 2). c.if-second-m.true (omega (arith, l))))))))
 
-returns_6 : tie.Need-returns-6
+returns_6 : tie.Need-returns-then-second_changed-m
 unfolding size_causes
 returns_6 c =
     let h5 = c.before in
@@ -114,9 +114,9 @@ returns_6 c =
     let d = h3.before in
     let e = d.before in
     let s = start e in
-    answer s (pass (good e) (pass (shaped d) (same (is_3 h3) (same (is_4 h4) (same (is_5 h5) (differs (λ (l : length (second' s) ≡ n s / 2). c.if6.true (omega (arith, l)))))))))
+    answer s (pass (good e) (pass (shaped d) (same (is_3 h3) (same (is_4 h4) (same (is_5 h5) (differs (λ (l : length (second' s) ≡ n s / 2). c.if-second_changed-m.true (omega (arith, l)))))))))
 
-returns_7 : tie.Need-returns-7
+returns_7 : tie.Need-returns-then-place-m
 unfolding size_causes
 returns_7 c =
     let h6 = c.before in
@@ -126,9 +126,9 @@ returns_7 c =
     let d = h3.before in
     let e = d.before in
     let s = start e in
-    answer s (pass (good e) (pass (shaped d) (same (is_3 h3) (same (is_4 h4) (same (is_5 h5) (same (is_6 h6) (stop (le-ltb (place s) (n s / 2) (omega (arith, c.if7.true))))))))))
+    answer s (pass (good e) (pass (shaped d) (same (is_3 h3) (same (is_4 h4) (same (is_5 h5) (same (is_6 h6) (stop (le-ltb (place s) (n s / 2) (omega (arith, c.if-place-m.true))))))))))
 
-returns_8 : tie.Need-returns-8
+returns_8 : tie.Need-returns
 unfolding size_causes
 returns_8 c =
     let h6 = c.before in
@@ -138,7 +138,7 @@ returns_8 c =
     let d = h3.before in
     let e = d.before in
     let s = start e in
-    answer s (pass (good e) (pass (shaped d) (same (is_3 h3) (same (is_4 h4) (same (is_5 h5) (same (is_6 h6) (pass (lt-ltb (place s) (n s / 2) (omega (arith, c.if7.false))) none)))))))
+    answer s (pass (good e) (pass (shaped d) (same (is_3 h3) (same (is_4 h4) (same (is_5 h5) (same (is_6 h6) (pass (lt-ltb (place s) (n s / 2) (omega (arith, c.if-place-m.false))) none)))))))
 
 pub size_code_spec : {M : Type 1} → statement M
 size_code_spec =

@@ -12,16 +12,16 @@ use Rattle.shares.specs.ProductLaws.{read, change_le}
 use Rattle.shares.proofs.change_times.Statement.{statement}
 use Rattle.shares.proofs.change_times.Tie as tie
 
-mul_apart : tie.Need-overflow-mul-apart
+mul_apart : tie.Need-offset_bounds-y-k
 mul_apart c = search rules
 
-shared_slice_copy_out_apart : tie.Need-shared-slice-copy-out-apart
+shared_slice_copy_out_apart : tie.Need-bounds-y-k
 shared_slice_copy_out_apart c = search rules
 
-mul_apart_2 : tie.Need-overflow-mul-apart-2
+mul_apart_2 : tie.Need-offset_bounds-x-k
 mul_apart_2 c = search rules
 
-shared_slice_copy_out_apart_2 : tie.Need-shared-slice-copy-out-apart-2
+shared_slice_copy_out_apart_2 : tie.Need-bounds-x-k
 shared_slice_copy_out_apart_2 c = search rules
 
 apart_requires : tie.Need-apart-requires
@@ -46,15 +46,15 @@ module _ (c : tie.After-size) where
       let a = s.args in
       ap₂ ◌*◌
       (d.apart.ensures
-      ∙ ap nat_abs (ap₂ ◌-ℤ◌ (read (get_or a.y.now a.k (pos 0)) d.before.before.apart-arg.given) (read (get_or a.x.now a.k (pos 0)) d.before.apart-arg2.given)))
-      (c.size.ensures ∙ ap nat_abs (to_z-of_z {w = w64} (record { sfits = c.before.kernel.type-inv }) ∙ c.before.kernel.ensures))
+      ∙ ap nat_abs (ap₂ ◌-ℤ◌ (read (get_or a.y.now a.k (pos 0)) d.before.before.apart-arg-1.given) (read (get_or a.x.now a.k (pos 0)) d.before.apart-arg-2-1.given)))
+      (c.size.ensures ∙ ap nat_abs (to_z-of_z {w = w64} (record { sfits = c.before.kernel.type_inv }) ∙ c.before.kernel.ensures))
 
   bound : change_times s.args.n s.args.i s.args.x.now s.args.y.now s.args.k ≤ 2 ^ 56
   bound =
       let a = s.args in
-      change_le a.n a.i a.x.now a.y.now a.k (s.pre.1.2.small a.k (omega (arith, s.pre.1.0, s.pre.0.3))) (s.pre.1.3.small a.k (omega (arith, s.pre.1.1, s.pre.0.3)))
+      change_le a.n a.i a.x.now a.y.now a.k (s.requires.1.2.small a.k (omega (arith, s.requires.1.0, s.requires.0.3))) (s.requires.1.3.small a.k (omega (arith, s.requires.1.1, s.requires.0.3)))
 
-mul_result : tie.Need-overflow-mul-result
+mul_result : tie.Need-overflow_mul-result
 mul_result c = rw (value c) (omega (arith, bound c))
 
 returns : tie.Need-returns

@@ -42,7 +42,7 @@ coefficients_requires c κs =
     let b = block_small s in
     let r = s.requires.1.0 in (plus-length N few u b (a s) (plus s) (minus s) r ∙ sym (a_long s), (minus-length N few u b (a s) (plus s) (minus s) r ∙ sym (a_long s), (s.requires.1.1 ∙ omega (arith, a_long s, s.requires.0.given.whole.twelve), (middle_small N few u b (a s) (plus s) (minus s) r, (plus_small N few u b (a s) (plus s) (minus s) r, minus_small N few u b (a s) (plus s) (minus s) r)))))
 
-same_length : tie.Need-same-length
+same_length : tie.Need-shape_of-out
 same_length c = search rules
 
 returns : tie.Need-returns

@@ -10,7 +10,7 @@ use borrow.Author.Rules.{rules}
 use Rattle.split.proofs.windowed_block.Statement.{statement}
 use Rattle.split.proofs.windowed_block.Tie as tie
 
-windowed_block_requires : tie.Need-windowed-block-requires
+windowed_block_requires : tie.Need-windowed_block-requires
 windowed_block_requires c κs =
     let s = c.before in
     let n = s.args.n in
@@ -21,7 +21,7 @@ windowed_block_requires c κs =
       (q.1.1.0 ∙ omega (arith, q.0.whole.twelve, ap length q.0.rise, l), (q.1.1.1 ∙ sym q.1.1.0, w)),
     )
 
-same_length : tie.Need-same-length
+same_length : tie.Need-shape_of-block
 same_length c = search rules
 
 returns : tie.Need-returns
@@ -30,9 +30,9 @@ returns c =
     let s = f.before.before in
     let q = s.requires in
     let n = s.args.n in
-    let is = windowed-step n s.args.left s.args.right s.args.x.now (length s.args.x.now) s.args.rise.now s.args.fall.now _ q.1.1.0 q.0.rise q.0.fall f.windowed-block.ensures.0 in
+    let is = windowed-step n s.args.left s.args.right s.args.x.now (length s.args.x.now) s.args.rise.now s.args.fall.now _ q.1.1.0 q.0.rise q.0.fall f.windowed_block.ensures.0 in
     record {
-      given = record { whole = q.0.whole; few = q.1.0; part = third-part n q.0.whole; all = windowed-length n s.args.left s.args.right s.args.x.now _ is; small = f.windowed-block.ensures.1 };
+      given = record { whole = q.0.whole; few = q.1.0; part = third-part n q.0.whole; all = windowed-length n s.args.left s.args.right s.args.x.now _ is; small = f.windowed_block.ensures.1 };
       is = is;
     }
 

@@ -43,90 +43,90 @@ module _ (c : tie.Start) where
   whole : length state ≡ entries
   whole = taken-whole state number left right x out c.requires
 
-length_in_requires : tie.Need-length-in-requires
-length_in_requires c κs = whole c.before
+length_in_requires : tie.Need-length_in-n-requires
+length_in_requires c κs = whole c
 
-sub_advance_tail : tie.Need-overflow-sub-advance-tail
-sub_advance_tail c = omega (arith, whole c.before.before)
+sub_advance_tail : tie.Need-slice_bounds-advance_tail-count
+sub_advance_tail c = omega (arith, whole c.before)
 
-part_advance_tail_start : tie.Need-slice-bounds-advance-tail-start
-part_advance_tail_start c = omega (arith, whole c.before.before)
+part_advance_tail_start : tie.Need-slice_bounds-advance_tail-start
+part_advance_tail_start c = omega (arith, whole c.before)
 
-part_advance_tail_end : tie.Need-slice-bounds-advance-tail-end
+part_advance_tail_end : tie.Need-slice_bounds-advance_tail-end
 part_advance_tail_end c = search rules
 
-advance_tail_requires : tie.Need-advance-tail-requires
+advance_tail_requires : tie.Need-advance_tail-requires
 advance_tail_requires c κs =
     let l = c.before.before in
-    let s = l.before.before in
-    rw (l.length-in.ensures, part_to_end (state s) 3) (taken_valid (state s) (number s) (left s) (right s) (x s) (out s) s.requires)
+    let s = l.before in
+    rw (l.length_in-n.ensures, part_to_end (state s) 3) (taken_valid (state s) (number s) (left s) (right s) (x s) (out s) s.requires)
 
 -- behind the work
-module _ (c : tie.After-advance-tail) where
-  abbrev l : tie.After-length-in
+module _ (c : tie.After-advance_tail) where
+  abbrev l : tie.After-length_in-n
   l = c.before.before.before
 
   abbrev s : tie.Start
-  s = l.before.before
+  s = l.before
 
   abbrev n : ℕ
-  n = l.length-in.result
+  n = l.length_in-n.result
 
   abbrev worked : List ℤ
-  worked = c.advance-tail.new.1.1.1.1.0
+  worked = c.advance_tail.new.tail
 
   tail_is : put_mid 3 (length (state s) - 3) (state s) worked ≡ take 3 (state s) ++ (S.step (stream_in (state s)) (number s) (left s) (right s) (x s) (out s)).stream.tail
   tail_is =
       put_tail (state s) worked
       ∙ ap (λ (t : List ℤ). take 3 (state s) ++ t)
-      (c.advance-tail.ensures.0
-      ∙ ap₂ (λ (k : ℕ) (t : List ℤ). new_tail k (rising (left s) k) (falling (right s) k) t (x s)) l.length-in.ensures (part_to_end (state s) 3)
-      ∙ taken-tail (state s) (number s) (left s) (right s) (x s) (out s) s.pre)
+      (c.advance_tail.ensures.0
+      ∙ ap₂ (λ (k : ℕ) (t : List ℤ). new_tail k (rising (left s) k) (falling (right s) k) t (x s)) l.length_in-n.ensures (part_to_end (state s) 3)
+      ∙ taken-tail (state s) (number s) (left s) (right s) (x s) (out s) s.requires)
 
-  out-is : c.advance-tail.new.1.1.1.1.1.0 ≡ step_out (state s) (number s) (left s) (right s) (x s) (out s)
+  out-is : c.advance_tail.new.out ≡ step_out (state s) (number s) (left s) (right s) (x s) (out s)
   out-is =
-      c.advance-tail.ensures.1
-      ∙ ap₂ (λ (k : ℕ) (t : List ℤ). hop k (rising (left s) k) (falling (right s) k) t (x s)) l.length-in.ensures (part_to_end (state s) 3)
-      ∙ taken_out (state s) (number s) (left s) (right s) (x s) (out s) s.pre
+      c.advance_tail.ensures.1
+      ∙ ap₂ (λ (k : ℕ) (t : List ℤ). hop k (rising (left s) k) (falling (right s) k) t (x s)) l.length_in-n.ensures (part_to_end (state s) 3)
+      ∙ taken_out (state s) (number s) (left s) (right s) (x s) (out s) s.requires
 
   long : 3 ≤ length (put_mid 3 (length (state s) - 3) (state s) worked)
   long =
       let tail = (S.step (stream_in (state s)) (number s) (left s) (right s) (x s) (out s)).stream.tail in
       omega (arith, ap length tail_is, length-append (take 3 (state s)) tail, length-take-le 3 (state s) (omega (arith, whole s)))
 
-add_following : tie.Need-overflow-add-following
+add_following : tie.Need-overflow_add-following
 add_following c = search rules
 
-cast_ends : tie.Need-overflow-cast-ends
+cast_ends : tie.Need-overflow_cast-ends
 cast_ends c = search rules
 
-cast_state : tie.Need-overflow-cast-state
+cast_state : tie.Need-overflow_cast-state
 cast_state c = search rules
 
-slice_set_from_state : tie.Need-slice-set-from-state
+slice_set_from_state : tie.Need-bounds-state-1
 slice_set_from_state c = omega (arith, long c.before.before)
 
-slice_set_from_ends : tie.Need-slice-set-from-ends
+slice_set_from_ends : tie.Need-bounds-state-2
 slice_set_from_ends c =
     let b = c.before.before in
     rw (length-set (put_mid 3 (length (state (s b)) - 3) (state (s b)) (worked b)) 1 (to_z w64 (number (s b) + 1))) (long b)
 
-same_length : tie.Need-same-length
+same_length : tie.Need-shape_of-state
 same_length c = search rules
 
-same_length_2 : tie.Need-same-length-2
+same_length_2 : tie.Need-shape_of-out
 same_length_2 c = search rules
 
 returns : tie.Need-returns
 returns c =
     let b = c.before.before in
     let a = s b in
-    let v : to_z w64 (number a + 1) ≡ pos (number a + 1) = to_z_pos w64 (omega (arith, a.fits.number.fits)) in
-    let w : to_z w64 (right a) ≡ pos (right a) = to_z_pos w64 (omega (arith, a.fits.right.fits)) in
+    let v : to_z w64 (number a + 1) ≡ pos (number a + 1) = to_z_pos w64 (omega (arith, a.ranges.number.fits)) in
+    let w : to_z w64 (right a) ≡ pos (right a) = to_z_pos w64 (omega (arith, a.ranges.right.fits)) in
     let new = take 3 (state a) ++ (S.step (stream_in (state a)) (number a) (left a) (right a) (x a) (out a)).stream.tail in (
       ap (λ (l : List ℤ). set (set l 1 (to_z w64 (number a + 1))) 2 (to_z w64 (right a))) (tail_is b)
           ∙ ap₂ (λ (v w : ℤ). set (set new 1 v) 2 w) v w
-          ∙ taken_state_is (state a) (number a) (left a) (right a) (x a) (out a) (whole a) a.pre,
+          ∙ taken_state_is (state a) (number a) (left a) (right a) (x a) (out a) (whole a) a.requires,
       out-is b,
     )
 

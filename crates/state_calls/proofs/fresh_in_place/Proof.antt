@@ -32,46 +32,46 @@ module _ (s : tie.Start) where
   state = s.args.state.now
 
 -- ---- what the tests say
-long_is : (c : tie.Else1) → tabled (n c.before.before) ≡ true
-long_is c = sym c.before.is-tabled.ensures ∙ not-false c.before.is-tabled.result c.if1.false
+long_is : (c : tie.Else-not-is_tabled) → tabled (n c.before.before) ≡ true
+long_is c = sym c.before.is_tabled.ensures ∙ not-false c.before.is_tabled.result c.if-not-is_tabled.false-raw
 
-most : (c : tie.Else1) → n c.before.before ≤ 216
+most : (c : tie.Else-not-is_tabled) → n c.before.before ≤ 216
 most c = (tabled_length (n c.before.before) (is_T (long_is c))).most
 
-whole : (c : tie.Else2) → length (state c.before.before.before) ≡ entries
-whole c = omega (arith, c.if2.false)
+whole : (c : tie.Else-state-ne-ENTRIES) → length (state c.before.before.before) ≡ entries
+whole c = omega (arith, c.if-state-ne-ENTRIES.false)
 
 -- ---- the answers
-is_tabled_requires : tie.Need-is-tabled-requires
+is_tabled_requires : tie.Need-is_tabled-requires
 is_tabled_requires c κs = search rules
 
-returns : tie.Need-returns
+returns : tie.Need-returns-then-not-is_tabled
 unfolding fresh_causes
 returns c =
     let s = c.before.before in
-    fresh-answer (n s) (state s) (stop (sym c.before.is-tabled.ensures ∙ not-true c.before.is-tabled.result c.if1.true))
+    fresh-answer (n s) (state s) (stop (sym c.before.is_tabled.ensures ∙ not-true c.before.is_tabled.result c.if-not-is_tabled.true-raw))
 
-returns_2 : tie.Need-returns-2
+returns_2 : tie.Need-returns-then-state-ne-ENTRIES
 unfolding fresh_causes
 returns_2 c =
     let s = c.before.before.before in
-    fresh-answer (n s) (state s) (pass (long_is c.before) (differs (λ (e : length (state s) ≡ entries). c.if2.true (omega (arith, e)))))
+    fresh-answer (n s) (state s) (pass (long_is c.before) (differs (λ (e : length (state s) ≡ entries). c.if-state-ne-ENTRIES.true (omega (arith, e)))))
 
 clear_requires : tie.Need-clear-requires
 clear_requires c κs = search rules
 
-cast_state : tie.Need-overflow-cast-state
+cast_state : tie.Need-overflow_cast-state
 cast_state c =
     let e = c.before.before.before.before in
     sfits_abs (pos (n e.before.before)) (omega (arith, most e))
 
-slice_set_from_state : tie.Need-slice-set-from-state
+slice_set_from_state : tie.Need-bounds-state-0
 slice_set_from_state c = search rules
 
-same_length : tie.Need-same-length
+same_length : tie.Need-shape_of-state
 same_length c = search rules
 
-returns_3 : tie.Need-returns-3
+returns_3 : tie.Need-returns
 unfolding fresh_causes
 returns_3 c =
     let f = c.before.before.before in

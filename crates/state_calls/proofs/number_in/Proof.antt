@@ -16,21 +16,21 @@ above : (v : ℤ) → lt_z v (pos 0) ≡ false → T (non_neg v)
 above (pos n) h = tt
 above (negsuc n) h = absurd (omega (arith, simp ints at (lt_z-false (negsuc n) (pos 0) h)))
 
-returns : tie.Need-returns
+returns : tie.Need-returns-then-entry-lt0
 unfolding number_in
 returns c =
-    let e : lt_z c.before.args.entry (pos 0) ≡ true = rw (to_z-of_z c.before.ranges.entry) at c.if1.true in
+    let e : lt_z c.before.args.entry (pos 0) ≡ true = rw (to_z-of_z c.before.ranges.entry) at c.if-entry-lt0.true in
     rw e
 
-not_below : (c : tie.Else1) → lt_z c.before.args.entry (pos 0) ≡ false
-not_below c = rw (to_z-of_z c.before.ranges.entry) at c.if1.false
+not_below : (c : tie.Else-entry-lt0) → lt_z c.before.args.entry (pos 0) ≡ false
+not_below c = rw (to_z-of_z c.before.ranges.entry) at c.if-entry-lt0.false
 
-cast_result : tie.Need-overflow-cast-result
+cast_result : tie.Need-overflow_cast-result
 cast_result c =
     let f = c.before.ranges.entry in
     rw (to_z-of_z f) (above c.before.args.entry (not_below c), record { fits = omega (arith, abs_sfits f) })
 
-returns_2 : tie.Need-returns-2
+returns_2 : tie.Need-returns
 unfolding number_in
 returns_2 c = rw (to_z-of_z c.before.ranges.entry, not_below c)
 

@@ -19,56 +19,56 @@ use borrow.Author.Rules.{rules}
 use Rattle.state_calls.proofs.step_in_place.Statement.{statement}
 use Rattle.state_calls.proofs.step_in_place.Tie as tie
 
-returns : tie.Need-returns
+returns : tie.Need-returns-then-state-ne-ENTRIES
 returns c =
     let a = c.before.args in
-    step_2 a.state.now a.number a.left a.right a.x.now a.out.now (λ (e : length a.state.now ≡ entries). c.if1.true (omega (arith, e)))
+    step_2 a.state.now a.number a.left a.right a.x.now a.out.now (λ (e : length a.state.now ≡ entries). c.if-state-ne-ENTRIES.true (omega (arith, e)))
 
-slice_copy_out_number_in : tie.Need-slice-copy-out-number-in
+slice_copy_out_number_in : tie.Need-slice_copy_out-number_in
 slice_copy_out_number_in c = search rules
 
-number_in_requires : tie.Need-number-in-requires
+number_in_requires : tie.Need-number_in-n-requires
 number_in_requires c κs = search rules
 
-slice_copy_out_number_in_2 : tie.Need-slice-copy-out-number-in-2
+slice_copy_out_number_in_2 : tie.Need-slice_copy_out-number_in-2
 slice_copy_out_number_in_2 c = search rules
 
-number_in_requires_2 : tie.Need-number-in-requires-2
+number_in_requires_2 : tie.Need-number_in-expected-requires
 number_in_requires_2 c κs = search rules
 
-slice_copy_out_shape_in : tie.Need-slice-copy-out-shape-in
+slice_copy_out_shape_in : tie.Need-slice_copy_out-shape_in
 slice_copy_out_shape_in c = search rules
 
-shape_in_requires : tie.Need-shape-in-requires
+shape_in_requires : tie.Need-shape_in-shape-requires
 shape_in_requires c κs = search rules
 
-sub_step_tail : tie.Need-overflow-sub-step-tail
+sub_step_tail : tie.Need-slice_bounds-step_tail-count
 sub_step_tail c = search rules
 
-part_step_tail_start : tie.Need-slice-bounds-step-tail-start
+part_step_tail_start : tie.Need-slice_bounds-step_tail-start
 part_step_tail_start c = search rules
 
-part_step_tail_end : tie.Need-slice-bounds-step-tail-end
+part_step_tail_end : tie.Need-slice_bounds-step_tail-end
 part_step_tail_end c = search rules
 
-step_tail_requires : tie.Need-step-tail-requires
+step_tail_requires : tie.Need-step_tail-code-requires
 step_tail_requires c κs = search rules
 
-same_length : tie.Need-same-length
+same_length : tie.Need-shape_of-state-then-code-ne0
 same_length c = search rules
 
-same_length_2 : tie.Need-same-length-2
+same_length_2 : tie.Need-shape_of-out-then-code-ne0
 same_length_2 c = search rules
 
 -- what the step on the tail is handed and answers
-module _ (c : tie.After-step-tail) where
-  abbrev third : tie.After-shape-in
+module _ (c : tie.After-step_tail-code) where
+  abbrev third : tie.After-shape_in-shape
   third = c.before.before.before
 
-  abbrev second : tie.After-number-in2
+  abbrev second : tie.After-number_in-expected
   second = third.before.before
 
-  abbrev first : tie.After-number-in
+  abbrev first : tie.After-number_in-n
   first = second.before.before
 
   abbrev begin : tie.Start
@@ -93,70 +93,70 @@ module _ (c : tie.After-step-tail) where
   out = begin.args.out.now
 
   whole : length state ≡ entries
-  whole = omega (arith, first.before.before.if1.left)
+  whole = omega (arith, first.before.before.if-state-ne-ENTRIES.false)
 
-  long_is : first.number_in.result ≡ number_in (at state 0) 0
-  long_is = first.number_in.ensures ∙ ap (λ (z : ℤ). number_in z 0) (to_z-of_z {w = w64} (record { sfits = first.before.number-in-arg.given }))
+  long_is : first.number_in-n.result ≡ number_in (at state 0) 0
+  long_is = first.number_in-n.ensures ∙ ap (λ (z : ℤ). number_in z 0) (to_z-of_z {w = w64} (record { sfits = first.before.number_in-arg-1.given }))
 
-  expects : second.number-in2.result ≡ number_in (at state 1) none
-  expects = second.number-in2.ensures ∙ ap (λ (z : ℤ). number_in z none) (to_z-of_z {w = w64} (record { sfits = second.before.number-in-arg2.given }))
+  expects : second.number_in-expected.result ≡ number_in (at state 1) none
+  expects = second.number_in-expected.ensures ∙ ap (λ (z : ℤ). number_in z none) (to_z-of_z {w = w64} (record { sfits = second.before.number_in-arg-2-1.given }))
 
-  ends : third.shape-in.result ≡ shape_in (at state 2)
-  ends = third.shape-in.ensures ∙ ap shape_in (to_z-of_z {w = w64} (record { sfits = third.before.shape-in-arg.given }))
+  ends : third.shape_in-shape.result ≡ shape_in (at state 2)
+  ends = third.shape_in-shape.ensures ∙ ap shape_in (to_z-of_z {w = w64} (record { sfits = third.before.shape_in-arg-1.given }))
 
   abbrev rest : List ℤ
   rest = take (length state - 3) (drop 3 state)
 
   -- a function of the stream, of what is handed in and of what the state holds
-  carried : {X : Type 0} (f : Stream → X) → f (S.stream_of first.number_in.result second.number-in2.result third.shape-in.result rest) ≡ f (stream_in state)
-  carried f = ap f (held-is state first.number_in.result second.number-in2.result third.shape-in.result long_is expects ends)
+  carried : {X : Type 0} (f : Stream → X) → f (S.stream_of first.number_in-n.result second.number_in-expected.result third.shape_in-shape.result rest) ≡ f (stream_in state)
+  carried f = ap f (held-is state first.number_in-n.result second.number_in-expected.result third.shape_in-shape.result long_is expects ends)
 
-  code_is : c.step-tail.result ≡ step_code state number left right x out
-  code_is = c.step-tail.ensures.0 ∙ carried (λ s. S.step_code s number left right x out) ∙ sym (same_code state number left right x out whole)
+  code_is : c.step_tail-code.result ≡ step_code state number left right x out
+  code_is = c.step_tail-code.ensures.0 ∙ carried (λ s. S.step_code s number left right x out) ∙ sym (same_code state number left right x out whole)
 
-  out-is : c.step-tail.new.1.1.1.1.1.1.1.1.0 ≡ step_out state number left right x out
-  out-is = c.step-tail.ensures.1.1 ∙ carried (λ s. S.step_out s number left right x out) ∙ sym (same_out state number left right x out whole)
+  out-is : c.step_tail-code.new.out ≡ step_out state number left right x out
+  out-is = c.step_tail-code.ensures.1.1 ∙ carried (λ s. S.step_out s number left right x out) ∙ sym (same_out state number left right x out whole)
 
-  tail_is : put_mid 3 (length state - 3) state c.step-tail.new.1.1.1.1.1.1.0 ≡ take 3 state ++ (S.step (stream_in state) number left right x out).stream.tail
+  tail_is : put_mid 3 (length state - 3) state c.step_tail-code.new.tail ≡ take 3 state ++ (S.step (stream_in state) number left right x out).stream.tail
   tail_is =
-      put_tail state c.step-tail.new.1.1.1.1.1.1.0
-      ∙ ap (λ (t : List ℤ). take 3 state ++ t) (c.step-tail.ensures.1.0 ∙ carried (λ s. (S.step s number left right x out).stream.tail))
+      put_tail state c.step_tail-code.new.tail
+      ∙ ap (λ (t : List ℤ). take 3 state ++ t) (c.step_tail-code.ensures.1.0 ∙ carried (λ s. (S.step s number left right x out).stream.tail))
 
-returns_2 : tie.Need-returns-2
+returns_2 : tie.Need-returns-then-code-ne0
 returns_2 c =
     let b = c.before.before.before in
-    (code_is b, (tail_is b ∙ refused-state (state b) (number b) (left b) (right b) (x b) (out b) (whole b) (λ z. c.if2.true (code_is b ∙ z)), out-is b))
+    (code_is b, (tail_is b ∙ refused-state (state b) (number b) (left b) (right b) (x b) (out b) (whole b) (λ z. c.if-code-ne0.true (code_is b ∙ z)), out-is b))
 
-add_then : tie.Need-overflow-add-then
+add_then : tie.Need-overflow_add-then
 add_then c = search rules
 
-cast_state : tie.Need-overflow-cast-state
+cast_state : tie.Need-overflow_cast-state
 cast_state c = search rules
 
-slice_set_from_state : tie.Need-slice-set-from-state
+slice_set_from_state : tie.Need-bounds-state-1
 slice_set_from_state c = search rules
 
-cast_state_2 : tie.Need-overflow-cast-state-2
+cast_state_2 : tie.Need-overflow_cast-state-2
 cast_state_2 c = search rules
 
-slice_set_from_state_2 : tie.Need-slice-set-from-state-2
+slice_set_from_state_2 : tie.Need-bounds-state-2
 slice_set_from_state_2 c =
     let b = c.before.before.before in
     let tail = (S.step (stream_in (state b)) (number b) (left b) (right b) (x b) (out b)).stream.tail in
-    let l = put_mid 3 (length (state b) - 3) (state b) b.step-tail.new.1.1.1.1.1.1.0 in
+    let l = put_mid 3 (length (state b) - 3) (state b) b.step_tail-code.new.tail in
     let long : 3 ≤ length l = omega (arith, ap length (tail_is b), length-append (take 3 (state b)) tail, length-take-le 3 (state b) (omega (arith, whole b))) in
     rw (length-set l 1 (to_z w64 (number b + 1))) long
 
-same_length_3 : tie.Need-same-length-3
+same_length_3 : tie.Need-shape_of-state
 same_length_3 c = search rules
 
-same_length_4 : tie.Need-same-length-4
+same_length_4 : tie.Need-shape_of-out
 same_length_4 c = search rules
 
-returns_3 : tie.Need-returns-3
+returns_3 : tie.Need-returns
 returns_3 c =
     let b = c.before.before.before in
-    let z = sym (code_is b) ∙ c.if2.false in
+    let z = sym (code_is b) ∙ c.if-code-ne0.false in
     let v : to_z w64 (number b + 1) ≡ pos (number b + 1) = to_z_pos w64 (omega (arith, (begin b).ranges.number.fits)) in
     let w : to_z w64 (right b) ≡ pos (right b) = to_z_pos w64 (omega (arith, (begin b).ranges.right.fits)) in
     let new = take 3 (state b) ++ (S.step (stream_in (state b)) (number b) (left b) (right b) (x b) (out b)).stream.tail in (

@@ -11,52 +11,52 @@ use Rattle.steps.specs.PassLaws.{Coarse, coarse_whole, coarse_next, coarse_end}
 use Rattle.steps.proofs.coarsest.Statement.{statement}
 use Rattle.steps.proofs.coarsest.Tie as tie
 
-abbrev invariant-loop : tie.invariant-loop
+abbrev invariant-loop : tie.invariant-loop-at
 invariant-loop table m at₀ most₀ at most = Coarse m table at most
 
-abbrev decreases-loop : tie.decreases-loop
+abbrev decreases-loop : tie.decreases-loop-at
 decreases-loop table m at₀ most₀ at most = length table - at
 
-loop-holds : tie.Need-loop-init invariant-loop decreases-loop
+loop-holds : tie.Need-loop-at-init invariant-loop decreases-loop
 loop-holds c = coarse_whole c.before.args.m c.before.args.table.now c.before.requires.1
 
-find_requires : tie.Need-find-requires invariant-loop decreases-loop
-find_requires c κs = c.before.loop.invariant.left.within
+find_requires : tie.Need-find-end-requires invariant-loop decreases-loop
+find_requires c κs = c.before.loop-at.invariant.left.within
 
 -- the line that ends there
-here : (c : tie.After-find invariant-loop decreases-loop) → Next c.before.before.before.before.args.m c.before.before.loop.invariant.next c.before.before.before.before.args.table.now c.before.before.loop.at c.find.result
-here c = left-next c.before.before.loop.invariant.left c.find.result c.before.loop-test.true c.find.ensures
+here : (c : tie.After-find-end invariant-loop decreases-loop) → Next c.before.before.before.before.args.m c.before.before.loop-at.invariant.next c.before.before.before.before.args.table.now c.before.before.loop-at.at c.find-end.result
+here c = left-next c.before.before.loop-at.invariant.left c.find-end.result c.before.loop-at-test.true c.find-end.ensures
 
-sub_row : tie.Need-overflow-sub-row invariant-loop decreases-loop
-sub_row c = omega (arith, c.find.ensures)
+sub_row : tie.Need-slice_bounds-row-count invariant-loop decreases-loop
+sub_row c = omega (arith, c.find-end.ensures)
 
-part_row_start : tie.Need-slice-bounds-row-start invariant-loop decreases-loop
-part_row_start c = omega (arith, c.find.ensures)
+part_row_start : tie.Need-slice_bounds-row-start invariant-loop decreases-loop
+part_row_start c = omega (arith, c.find-end.ensures)
 
-part_row_end : tie.Need-slice-bounds-row-end invariant-loop decreases-loop
+part_row_end : tie.Need-slice_bounds-row-end invariant-loop decreases-loop
 part_row_end c = omega (arith, (here c).ended)
 
-row_requires : tie.Need-row-requires invariant-loop decreases-loop
+row_requires : tie.Need-row-r-requires invariant-loop decreases-loop
 row_requires c κs = search rules
 
-larger_requires : tie.Need-larger-requires invariant-loop decreases-loop
+larger_requires : tie.Need-larger-most-requires invariant-loop decreases-loop
 larger_requires c κs = search rules
 
-add_at : tie.Need-overflow-add-at invariant-loop decreases-loop
+add_at : tie.Need-overflow_add-at invariant-loop decreases-loop
 add_at c = omega (arith, (here c.before.before.before).ended)
 
-loop-less : tie.Need-loop-smaller invariant-loop decreases-loop
-loop-less c = let d = c.before.before.before in omega (arith, d.find.ensures, (here d).ended)
+loop-less : tie.Need-loop-at-smaller invariant-loop decreases-loop
+loop-less c = let d = c.before.before.before in omega (arith, d.find-end.ensures, (here d).ended)
 
-loop-again : tie.Need-loop-preserved invariant-loop decreases-loop
+loop-again : tie.Need-loop-at-preserved invariant-loop decreases-loop
 loop-again c =
-    let r = c.before.row in
+    let r = c.before.row-r in
     let d = c.before.before.before in
-    let l = d.before.before.loop in
-    rw (c.larger.ensures ∙ ap (λ (x : Line). larger l.most x.step) r.ensures) (coarse_next l.invariant (here d))
+    let l = d.before.before.loop-at in
+    rw (c.larger-most.ensures ∙ ap (λ (x : Line). larger l.most x.step) r.ensures) (coarse_next l.invariant (here d))
 
 returns : tie.Need-returns invariant-loop decreases-loop
-returns c = coarse_end c.before.loop.invariant c.loop-test.false
+returns c = coarse_end c.before.loop-at.invariant c.loop-at-test.false
 
 pub coarsest_spec : {M : Type 1} → statement M
 coarsest_spec =

@@ -21,28 +21,28 @@ use Rattle.steps.specs.PassLaws.{Filling, spread-length, filling_whole, filling_
 use Rattle.steps.proofs.pass.Statement.{statement}
 use Rattle.steps.proofs.pass.Tie as tie
 
-abbrev invariant-loop : tie.invariant-loop
+abbrev invariant-loop : tie.invariant-loop-at
 invariant-loop table m steps₀ at₀ line₀ next₀ fault₀ steps at line next fault =
     (at ≤ length table) × (1 ≤ line) × (2 * line ≤ at + 2) × (verdict m table ≡ left m line fault next (drop at table)) × (length steps ≡ m) ×
     (table_code m table ≡ 0 → Filling m table at next steps steps₀)
 
-abbrev decreases-loop : tie.decreases-loop
+abbrev decreases-loop : tie.decreases-loop-at
 decreases-loop table m steps₀ at₀ line₀ next₀ fault₀ steps at line next fault = length table - at
 
-refused_requires : tie.Need-refused-requires invariant-loop decreases-loop
+refused_requires : tie.Need-refused-fault-requires invariant-loop decreases-loop
 refused_requires c κs = search rules
 
-loop-holds : tie.Need-loop-init invariant-loop decreases-loop
+loop-holds : tie.Need-loop-at-init invariant-loop decreases-loop
 loop-holds c =
     let s = c.before.before.before in
     let a = s.args in
-    (omega arith, omega arith, omega arith, rw c.refused.ensures (left-whole a.m a.table.now), s.requires.1, (λ z. filling_whole a.m a.table.now a.steps.now z))
+    (omega arith, omega arith, omega arith, rw c.refused-fault.ensures (left-whole a.m a.table.now), s.requires.1, (λ z. filling_whole a.m a.table.now a.steps.now z))
 
-find_requires : tie.Need-find-requires invariant-loop decreases-loop
+find_requires : tie.Need-find-end-requires invariant-loop decreases-loop
 find_requires c κs = search rules
 
 -- at the end of a line
-module _ (c : tie.After-find invariant-loop decreases-loop) where
+module _ (c : tie.After-find-end invariant-loop decreases-loop) where
   abbrev text : List ℕ
   text = c.before.before.before.before.before.before.args.table.now
 
@@ -50,7 +50,7 @@ module _ (c : tie.After-find invariant-loop decreases-loop) where
   m = c.before.before.before.before.before.before.args.m
 
   abbrev line : List ℕ
-  line = part text c.before.before.loop.at c.find.result
+  line = part text c.before.before.loop-at.at c.find-end.result
 
   abbrev start : tie.Start invariant-loop decreases-loop
   start = c.before.before.before.before.before.before
@@ -61,52 +61,52 @@ module _ (c : tie.After-find invariant-loop decreases-loop) where
   few : m ≤ 108
   few = c.before.before.before.before.before.before.requires.0.1
 
-  end≤ : c.find.result ≤ length text
-  end≤ = end-most line_feed text c.before.before.loop.at c.find.result c.before.before.loop.invariant.0 c.find.ensures
+  end≤ : c.find-end.result ≤ length text
+  end≤ = end-most line_feed text c.before.before.loop-at.at c.find-end.result c.before.before.loop-at.invariant.0 c.find-end.ensures
 
-row_at_requires : tie.Need-row-at-requires invariant-loop decreases-loop
-row_at_requires c κs = (c.before.before.before.before.before.before.requires.0, (omega (arith, c.find.ensures), end≤ c))
+row_at_requires : tie.Need-row_at-r-requires invariant-loop decreases-loop
+row_at_requires c κs = (c.before.before.before.before.before.before.requires.0, (omega (arith, c.find-end.ensures), end≤ c))
 
-refused_requires_2 : tie.Need-refused-requires-2 invariant-loop decreases-loop
+refused_requires_2 : tie.Need-refused-requires invariant-loop decreases-loop
 refused_requires_2 c κs = search rules
 
-same_length : tie.Need-same-length invariant-loop decreases-loop
-same_length c = c.before.before.before.before.before.before.loop.invariant.4 ∙ sym c.before.before.before.before.before.before.before.before.before.before.requires.1
+same_length : tie.Need-shape_of-steps-then-not-r invariant-loop decreases-loop
+same_length c = c.before.before.before.before.before.before.loop-at.invariant.4 ∙ sym c.before.before.before.before.before.before.before.before.before.before.requires.1
 
-returns : tie.Need-returns invariant-loop decreases-loop
+returns : tie.Need-returns-then-not-r invariant-loop decreases-loop
 returns c =
-    let r = c.before.before.before.row_at in
+    let r = c.before.before.before.row_at-r in
     let d = c.before.before.before.before in
-    let l = d.before.before.loop in
+    let l = d.before.before.loop-at in
     let none = l.invariant.3
-    ∙ left-none (m d) l.line l.fault l.next (text d) l.at d.find.result l.invariant.1 d.before.loop-test.true d.find.ensures
-    (ap (λ (x : Line). x.ok) (sym r.ensures) ∙ not-true r.result.ok c.before.if1.true) in
-    (c.refused2.ensures ∙ sym none, (λ z. absurd (omega (arith, z, ap (λ (v : Verdict). v.code) none))))
+    ∙ left-none (m d) l.line l.fault l.next (text d) l.at d.find-end.result l.invariant.1 d.before.loop-at-test.true d.find-end.ensures
+    (ap (λ (x : Line). x.ok) (sym r.ensures) ∙ not-true r.result.ok c.before.if-not-r.true) in
+    (c.refused.ensures ∙ sym none, (λ z. absurd (omega (arith, z, ap (λ (v : Verdict). v.code) none))))
 
 -- behind a line that is one
-module _ (c : tie.Else1 invariant-loop decreases-loop) where
-  abbrev found : tie.After-find invariant-loop decreases-loop
+module _ (c : tie.Else-not-r invariant-loop decreases-loop) where
+  abbrev found : tie.After-find-end invariant-loop decreases-loop
   found = c.before.before.before
 
-  ended : Ended (m found) (text found) found.before.before.loop.at found.find.result
+  ended : Ended (m found) (text found) found.before.before.loop-at.at found.find-end.result
   ended =
-      let r = c.before.before.row_at in
-      ended-row (m found) (text found) found.before.before.loop.at found.find.result (end≤ found)
-      (ap (λ (x : Line). x.ok) (sym r.ensures) ∙ not-false r.result.ok c.if1.false)
+      let r = c.before.before.row_at-r in
+      ended-row (m found) (text found) found.before.before.loop-at.at found.find-end.result (end≤ found)
+      (ap (λ (x : Line). x.ok) (sym r.ensures) ∙ not-false r.result.ok c.if-not-r.false)
 
-  row_said : c.before.before.row_at.result ≡ row_of (m found) (line found)
-  row_said = c.before.before.row_at.ensures ∙ ended.is
+  row_said : c.before.before.row_at-r.result ≡ row_of (m found) (line found)
+  row_said = c.before.before.row_at-r.ensures ∙ ended.is
 
   row_ok : (row_of (m found) (line found)).ok ≡ true
-  row_ok = ap (λ (x : Line). x.ok) (sym row_said) ∙ not-false c.before.before.row_at.result.ok c.if1.false
+  row_ok = ap (λ (x : Line). x.ok) (sym row_said) ∙ not-false c.before.before.row_at-r.result.ok c.if-not-r.false
 
-  apart : found.before.before.loop.at < found.find.result
-  apart = row_apart (m found) (text found) found.before.before.loop.at found.find.result (omega (arith, found.find.ensures)) (end≤ found) row_ok
+  apart : found.before.before.loop-at.at < found.find-end.result
+  apart = row_apart (m found) (text found) found.before.before.loop-at.at found.find-end.result (omega (arith, found.find-end.ensures)) (end≤ found) row_ok
 
-joint_requires : tie.Need-joint-requires invariant-loop decreases-loop
+joint_requires : tie.Need-joint-fault-requires invariant-loop decreases-loop
 joint_requires c κs = search rules
 
-add_next : tie.Need-overflow-add-next invariant-loop decreases-loop
+add_next : tie.Need-overflow_add-next invariant-loop decreases-loop
 add_next c =
     let g = c.before.before in
     let d = found g in
@@ -120,72 +120,72 @@ fill_requires c κs =
     let r = row_is (m d) (line d) (some d) (row_ok g) in
     let first = ap (λ (x : Line). x.first) (row_said g) in
     let last = ap (λ (x : Line). x.last) (row_said g) in
-    (omega (arith, first, last, r.ordered), omega (arith, last, r.inside, d.before.before.loop.inv.4))
+    (omega (arith, first, last, r.ordered), omega (arith, last, r.inside, d.before.before.loop-at.invariant.4))
 
-add_at : tie.Need-overflow-add-at invariant-loop decreases-loop
+add_at : tie.Need-overflow_add-at invariant-loop decreases-loop
 add_at c = omega (arith, (ended c.before.before.before.before.before.before).less)
 
-add_line : tie.Need-overflow-add-line invariant-loop decreases-loop
+add_line : tie.Need-overflow_add-line invariant-loop decreases-loop
 add_line c =
     let d = found c.before.before.before.before.before.before in
-    omega (arith, d.before.loop-test.taken, d.before.before.loop.inv.2)
+    omega (arith, d.before.loop-at-test.true, d.before.before.loop-at.invariant.2)
 
-loop-less : tie.Need-loop-smaller invariant-loop decreases-loop
+loop-less : tie.Need-loop-at-smaller invariant-loop decreases-loop
 loop-less c = search rules
 
 -- the steps that a line gives, in a table that is taken
-module _ (c : tie.After-slice-known2 invariant-loop decreases-loop) where
-  abbrev behind : tie.Else1 invariant-loop decreases-loop
+module _ (c : tie.After-slice_known-in-loop-at-1 invariant-loop decreases-loop) where
+  abbrev behind : tie.Else-not-r invariant-loop decreases-loop
   behind = c.before.before.before.before.before.before
 
-  abbrev here : tie.After-find invariant-loop decreases-loop
+  abbrev here : tie.After-find-end invariant-loop decreases-loop
   here = found behind
 
-  abbrev l : tie.At-loop invariant-loop decreases-loop
+  abbrev l : tie.At-loop-at invariant-loop decreases-loop
   l = here.before.before
 
   abbrev row : Line
   row = row_of (m here) (line here)
 
-  written : c.before.before.fill.new.0 ≡ spread (row.last + 1 - row.first) row.first row.step l.loop.steps
-  written = c.before.before.fill.ensures ∙ ap (λ (x : Line). spread (x.last + 1 - x.first) x.first x.step l.loop.steps) (row_said behind)
+  written : c.before.before.fill.new.steps ≡ spread (row.last + 1 - row.first) row.first row.step l.loop-at.steps
+  written = c.before.before.fill.ensures ∙ ap (λ (x : Line). spread (x.last + 1 - x.first) x.first x.step l.loop-at.steps) (row_said behind)
 
-loop-again : tie.Need-loop-preserved invariant-loop decreases-loop
+loop-again : tie.Need-loop-at-preserved invariant-loop decreases-loop
 loop-again c =
     let g = behind c in
     let d = here c in
-    let l = d.before.before.loop in (
+    let l = d.before.before.loop-at in (
       omega (arith, (ended g).less),
-      omega (arith, l.inv.1),
-      omega (arith, apart g, l.inv.2),
-      l.inv.3
-          ∙ left-more (m d) l.line l.fault l.next (text d) l.at d.find.result l.inv.1 d.before.loop-test.taken d.find.ensures (ended g).less (row_ok g)
+      omega (arith, l.invariant.1),
+      omega (arith, apart g, l.invariant.2),
+      l.invariant.3
+          ∙ left-more (m d) l.line l.fault l.next (text d) l.at d.find-end.result l.invariant.1 d.before.loop-at-test.true d.find-end.ensures (ended g).less (row_ok g)
           ∙ sym
           (ap₂
-          (λ (x : Verdict) (y : ℕ). left (m d) (l.line + 1) x y (drop (d.find.result + 1) (text d)))
-          (c.before.before.before.before.before.joint.ensures ∙ ap (λ (x : Line). joint_fault l.fault l.line l.next x.first) (row_said g))
+          (λ (x : Verdict) (y : ℕ). left (m d) (l.line + 1) x y (drop (d.find-end.result + 1) (text d)))
+          (c.before.before.before.before.before.joint-fault.ensures ∙ ap (λ (x : Line). joint_fault l.fault l.line l.next x.first) (row_said g))
           (ap (λ (x : Line). x.last + 1) (row_said g))),
-      ap length (written c) ∙ spread-length ((row c).last + 1 - (row c).first) (row c).first (row c).step l.steps ∙ l.inv.4,
+      ap length (written c) ∙ spread-length ((row c).last + 1 - (row c).first) (row c).first (row c).step l.steps ∙ l.invariant.4,
       (λ z.
-          let f = l.inv.5 z in
-          let n : Next (m d) l.next (text d) l.at d.find.result = left-next f.left d.find.result d.before.loop-test.taken d.find.ensures in
-          filling_line f d.find.result n (some d) (start d).pre.1 (g.before.before.row_at.result.last + 1) c.before.before.fill.new.0
+          let f = l.invariant.5 z in
+          let n : Next (m d) l.next (text d) l.at d.find-end.result = left-next f.left d.find-end.result d.before.loop-at-test.true d.find-end.ensures in
+          filling_line f d.find-end.result n (some d) (start d).requires.1 (g.before.before.row_at-r.result.last + 1) c.before.before.fill.new.steps
           (ap (λ (x : Line). x.last + 1) (row_said g)) (written c)),
     )
 
 closing_requires : tie.Need-closing-requires invariant-loop decreases-loop
 closing_requires c κs = search rules
 
-same_length_2 : tie.Need-same-length-2 invariant-loop decreases-loop
-same_length_2 c = c.before.before.loop.invariant.4 ∙ sym c.before.before.before.before.before.before.requires.1
+same_length_2 : tie.Need-shape_of-steps invariant-loop decreases-loop
+same_length_2 c = c.before.before.loop-at.invariant.4 ∙ sym c.before.before.before.before.before.before.requires.1
 
-returns_2 : tie.Need-returns-2 invariant-loop decreases-loop
+returns_2 : tie.Need-returns invariant-loop decreases-loop
 returns_2 c =
-    let l = c.before.before.loop in
+    let l = c.before.before.loop-at in
     let s = c.before.before.before.before.before.before in
     let a = s.args in (
-      c.closing.ensures ∙ sym (l.invariant.3 ∙ left_end a.m l.line l.fault l.next a.table.now l.at c.before.loop-test.false),
-      (λ z. filling_end (l.invariant.5 z) c.before.loop-test.false s.requires.1),
+      c.closing.ensures ∙ sym (l.invariant.3 ∙ left_end a.m l.line l.fault l.next a.table.now l.at c.before.loop-at-test.false),
+      (λ z. filling_end (l.invariant.5 z) c.before.loop-at-test.false s.requires.1),
     )
 
 pub pass_spec : {M : Type 1} → statement M

@@ -16,64 +16,64 @@ use Rattle.stream.proofs.fill_hop.Tie as tie
 abbrev value : ℕ → List ℤ → List ℤ → ℕ → ℤ
 value n tail v i = clamp (rnd (at tail i +ℤ at v i) (n * 2 ^ 30))
 
-abbrev invariant-loop : tie.invariant-loop
+abbrev invariant-loop : tie.invariant-loop-i
 invariant-loop n tail v out₀ i₀ i_end out i = (i ≤ n / 2) × Filled (value n tail v) i out out₀
 
-abbrev decreases-loop : tie.decreases-loop
+abbrev decreases-loop : tie.decreases-loop-i
 decreases-loop n tail v out₀ i₀ i_end out i = n / 2 - i
 
-loop-holds : tie.Need-loop-init invariant-loop decreases-loop
+loop-holds : tie.Need-loop-i-init invariant-loop decreases-loop
 loop-holds c = (omega arith, filled_none (value c.args.n c.args.tail.now c.args.v.now) c.args.out.now)
 
-mul_sample : tie.Need-overflow-mul-sample invariant-loop decreases-loop
+mul_sample : tie.Need-offset_bounds-tail-i invariant-loop decreases-loop
 mul_sample c = omega arith
 
-shared_slice_copy_out_sample : tie.Need-shared-slice-copy-out-sample invariant-loop decreases-loop
+shared_slice_copy_out_sample : tie.Need-bounds-tail-i invariant-loop decreases-loop
 shared_slice_copy_out_sample c = omega (arith, c.before.before.requires.1.1.0.long)
 
-mul_sample_2 : tie.Need-overflow-mul-sample-2 invariant-loop decreases-loop
+mul_sample_2 : tie.Need-offset_bounds-v-i invariant-loop decreases-loop
 mul_sample_2 c = omega arith
 
-shared_slice_copy_out_sample_2 : tie.Need-shared-slice-copy-out-sample-2 invariant-loop decreases-loop
+shared_slice_copy_out_sample_2 : tie.Need-bounds-v-i invariant-loop decreases-loop
 shared_slice_copy_out_sample_2 c = omega (arith, c.before.before.before.requires.1.1.1.0.long)
 
 sample_requires : tie.Need-sample-requires invariant-loop decreases-loop
 sample_requires c κs =
     let s = c.before.before.before.before in
-    let i = c.before.before.before.loop.i in (s.requires.0, (s.requires.1.0, (rw (to_z-of_z {w = w64} (record { sfits = c.before.sample-arg.given })) (s.requires.1.1.0.bounded.within i (omega arith)), rw (to_z-of_z {w = w64} (record { sfits = c.sample-arg2.given })) (s.requires.1.1.1.0.bounded.within i (omega arith)))))
+    let i = c.before.before.before.loop-i.i in (s.requires.0, (s.requires.1.0, (rw (to_z-of_z {w = w64} (record { sfits = c.before.sample-arg-1.given })) (s.requires.1.1.0.bounded.within i (omega arith)), rw (to_z-of_z {w = w64} (record { sfits = c.sample-arg-in-loop-i-1.given })) (s.requires.1.1.1.0.bounded.within i (omega arith)))))
 
-mul_t15 : tie.Need-overflow-mul-t15 invariant-loop decreases-loop
+mul_t15 : tie.Need-offset_bounds-out-i invariant-loop decreases-loop
 mul_t15 c = omega arith
 
-slice_set_from_out : tie.Need-slice-set-from-out invariant-loop decreases-loop
-slice_set_from_out c = omega (arith, c.before.before.before.before.loop.invariant.1.room, c.before.before.before.before.before.requires.1.1.1.1)
+slice_set_from_out : tie.Need-bounds-out-i invariant-loop decreases-loop
+slice_set_from_out c = omega (arith, c.before.before.before.before.loop-i.invariant.1.room, c.before.before.before.before.before.requires.1.1.1.1)
 
-add_i : tie.Need-overflow-add-i invariant-loop decreases-loop
+add_i : tie.Need-overflow_step-i invariant-loop decreases-loop
 add_i c = omega arith
 
-loop-less : tie.Need-loop-smaller invariant-loop decreases-loop
+loop-less : tie.Need-loop-i-smaller invariant-loop decreases-loop
 loop-less c = omega arith
 
-loop-again : tie.Need-loop-preserved invariant-loop decreases-loop
+loop-again : tie.Need-loop-i-preserved invariant-loop decreases-loop
 loop-again c =
     let l = c.before.before.before.before in
     let a = l.before.args in (
       omega arith,
-      filled_more (value a.n a.tail.now a.v.now) l.loop.i l.loop.out a.out.now _ l.loop.invariant.1
-          (omega (arith, l.loop.invariant.1.room, l.before.requires.1.1.1.1))
-          (to_z-of_z {w = w16} {z = c.sample.result} (record { sfits = c.sample.type-inv }) ∙ c.sample.ensures
-          ∙ rw (to_z-of_z {w = w64} (record { sfits = c.before.before.sample-arg.given }), to_z-of_z {w = w64} (record { sfits = c.before.sample-arg2.given }))),
+      filled_more (value a.n a.tail.now a.v.now) l.loop-i.i l.loop-i.out a.out.now _ l.loop-i.invariant.1
+          (omega (arith, l.loop-i.invariant.1.room, l.before.requires.1.1.1.1))
+          (to_z-of_z {w = w16} {z = c.sample.result} (record { sfits = c.sample.type_inv }) ∙ c.sample.ensures
+          ∙ rw (to_z-of_z {w = w64} (record { sfits = c.before.before.sample-arg-1.given }), to_z-of_z {w = w64} (record { sfits = c.before.sample-arg-in-loop-i-1.given }))),
     )
 
-same_length : tie.Need-same-length invariant-loop decreases-loop
-same_length c = c.before.loop.invariant.1.room
+same_length : tie.Need-shape_of-out invariant-loop decreases-loop
+same_length c = c.before.loop-i.invariant.1.room
 
 returns : tie.Need-returns invariant-loop decreases-loop
 returns c =
     let s = c.before.before in
     let a = s.args in
-    let e : c.before.loop.i ≡ a.n / 2 = omega arith in
-    filled-all (value a.n a.tail.now a.v.now) (a.n / 2) c.before.loop.out a.out.now (rw e at c.before.loop.invariant.1) s.requires.1.1.1.1
+    let e : c.before.loop-i.i ≡ a.n / 2 = omega arith in
+    filled-all (value a.n a.tail.now a.v.now) (a.n / 2) c.before.loop-i.out a.out.now (rw e at c.before.loop-i.invariant.1) s.requires.1.1.1.1
 
 pub fill_hop_spec : {M : Type 1} → statement M
 fill_hop_spec =

@@ -22,7 +22,7 @@ module _ (c : tie.Start) where
   sum_is : to_z w64 (of_z w64 (to_z w64 (of_z w64 c.args.tail) +ℤ to_z w64 (of_z w64 c.args.v))) ≡ c.args.tail +ℤ c.args.v
   sum_is = rw (to_z-of_z c.ranges.tail, to_z-of_z c.ranges.v) (to_z-of_z sum_fits)
 
-add_sample : tie.Need-overflow-add-sample
+add_sample : tie.Need-overflow_add-tail
 add_sample c = rw (to_z-of_z c.ranges.tail, to_z-of_z c.ranges.v) (sum_fits c)
 
 sample_requires : tie.Need-sample-requires
@@ -31,7 +31,7 @@ sample_requires c κs = (c.requires.0, rw (sum_is c) (sum-most c))
 returns : tie.Need-returns
 returns c =
     let s = c.before in
-    to_z-of_z {w = w16} {z = c.sample.result} (record { sfits = c.sample.type-inv })
+    to_z-of_z {w = w16} {z = c.sample.result} (record { sfits = c.sample.type_inv })
     ∙ c.sample.ensures
     ∙ ap (λ (z : ℤ). clamp (rnd z (s.args.n * 2 ^ 30))) (sum_is s)
 

@@ -21,57 +21,57 @@ module _ (s : tie.Start) where
   held = stream_of s.args.n s.args.expected s.args.shape s.args.tail.now
 
 -- ---- what the tests say
-said : (c : tie.After-is-sound) → c.is-sound.result ≡ sound (held c.before)
+said : (c : tie.After-is_sound) → c.is_sound.result ≡ sound (held c.before)
 unfolding sound sound_tail
-said c = c.is-sound.ensures
+said c = c.is_sound.ensures
 
-abbrev start : tie.Else1 → tie.Start
+abbrev start : tie.Else-not-is_sound → tie.Start
 start c = c.before.before
 
-good : (c : tie.Else1) → sound (held (start c)) ≡ true
-good c = let t = c.before in sym (said t) ∙ not-false t.is-sound.result c.if1.false
+good : (c : tie.Else-not-is_sound) → sound (held (start c)) ≡ true
+good c = let t = c.before in sym (said t) ∙ not-false t.is_sound.result c.if-not-is_sound.false-raw
 
-named : (c : tie.Else2) → let s = start c.before in number s ≡ s.args.expected
-named c = omega (arith, c.if2.false)
+named : (c : tie.Else-expected-number) → let s = start c.before in number s ≡ s.args.expected
+named c = omega (arith, c.if-expected-number.false)
 
 -- ---- the answers
-is_sound_requires : tie.Need-is-sound-requires
+is_sound_requires : tie.Need-is_sound-requires
 is_sound_requires c κs = search rules
 
-returns : tie.Need-returns
+returns : tie.Need-returns-then-not-is_sound
 unfolding admit_code admit_causes
 returns c =
     let t = c.before in
     let s = t.before in
-    sym (first_is (admit_causes (held s) (number s) s.args.left s.args.right) (stop (sym (said t) ∙ not-true t.is-sound.result c.if1.true)))
+    sym (first_is (admit_causes (held s) (number s) s.args.left s.args.right) (stop (sym (said t) ∙ not-true t.is_sound.result c.if-not-is_sound.true-raw)))
 
-returns_2 : tie.Need-returns-2
+returns_2 : tie.Need-returns-then-expected-number
 unfolding admit_code admit_causes
 returns_2 c =
     let e = c.before in
     let s = start e in
-    sym (first_is (admit_causes (held s) (number s) s.args.left s.args.right) (pass (good e) (differs (λ (l : number s ≡ s.args.expected). c.if2.true (omega (arith, l))))))
+    sym (first_is (admit_causes (held s) (number s) s.args.left s.args.right) (pass (good e) (differs (λ (l : number s ≡ s.args.expected). c.if-expected-number.true (omega (arith, l))))))
 
-joints_fit_requires : tie.Need-joints-fit-requires
+joints_fit_requires : tie.Need-joints_fit-requires
 joints_fit_requires c κs = search rules
 
-returns_3 : tie.Need-returns-3
+returns_3 : tie.Need-returns-then-not-joints_fit
 unfolding admit_code admit_causes
 returns_3 c =
     let t = c.before in
     let f = t.before in
     let e = f.before in
     let s = start e in
-    sym (first_is (admit_causes (held s) (number s) s.args.left s.args.right) (pass (good e) (same (named f) (stop (sym t.joints-fit.ensures ∙ not-true t.joints-fit.result c.if3.true)))))
+    sym (first_is (admit_causes (held s) (number s) s.args.left s.args.right) (pass (good e) (same (named f) (stop (sym t.joints_fit.ensures ∙ not-true t.joints_fit.result c.if-not-joints_fit.true-raw)))))
 
-returns_4 : tie.Need-returns-4
+returns_4 : tie.Need-returns
 unfolding admit_code admit_causes
 returns_4 c =
     let t = c.before in
     let f = t.before in
     let e = f.before in
     let s = start e in
-    sym (first_is (admit_causes (held s) (number s) s.args.left s.args.right) (pass (good e) (same (named f) (pass (sym t.joints-fit.ensures ∙ not-false t.joints-fit.result c.if3.false) none))))
+    sym (first_is (admit_causes (held s) (number s) s.args.left s.args.right) (pass (good e) (same (named f) (pass (sym t.joints_fit.ensures ∙ not-false t.joints_fit.result c.if-not-joints_fit.false-raw) none))))
 
 pub admit_spec : {M : Type 1} → statement M
 admit_spec =

@@ -12,25 +12,25 @@ use borrow.Author.Rules.{rules}
 use Rattle.stream_calls.proofs.is_sound.Statement.{statement}
 use Rattle.stream_calls.proofs.is_sound.Tie as tie
 
-long_is : (c : tie.Else1) → tabled c.before.before.args.n ≡ true
-long_is c = sym c.before.is-tabled.ensures ∙ not-false c.before.is-tabled.result c.if1.false
+long_is : (c : tie.Else-not-is_tabled) → tabled c.before.before.args.n ≡ true
+long_is c = sym c.before.is_tabled.ensures ∙ not-false c.before.is_tabled.result c.if-not-is_tabled.false-raw
 
-is_tabled_requires : tie.Need-is-tabled-requires
+is_tabled_requires : tie.Need-is_tabled-requires
 is_tabled_requires c κs = search rules
 
-returns : tie.Need-returns
+returns : tie.Need-returns-then-not-is_tabled
 unfolding sound
 returns c =
-    let e : tabled c.before.before.args.n ≡ false = sym c.before.is-tabled.ensures ∙ not-true c.before.is-tabled.result c.if1.true in
+    let e : tabled c.before.before.args.n ≡ false = sym c.before.is_tabled.ensures ∙ not-true c.before.is_tabled.result c.if-not-is_tabled.true-raw in
     rw e
 
-tail_within_requires : tie.Need-tail-within-requires
+tail_within_requires : tie.Need-tail_within-requires
 tail_within_requires c κs =
     let s = c.before.before in
     let most = (tabled_length s.args.n (is_T (long_is c))).most in
     (omega (arith, most), omega (arith, most, s.requires), hop_sixes s.args.n (is_T (long_is c)))
 
-returns_2 : tie.Need-returns-2
+returns_2 : tie.Need-returns
 unfolding sound sound_tail
 returns_2 c =
     let e = long_is c.before in

@@ -14,13 +14,13 @@ tabled-is : T (tabled 108)
 unfolding tabled every lengths
 tabled-is = tt
 
-returns : tie.Need-returns
+returns : tie.Need-returns-then-shape-eq0
 unfolding fall_numbers table_rise table table_c continued to_turn to_half reduced numbers
-returns c = fall_long c.before.args.shape 108 tabled-is c.if1.true
+returns c = fall_long c.before.args.shape 108 tabled-is c.if-shape-eq0.true
 
-returns_2 : tie.Need-returns-2
+returns_2 : tie.Need-returns
 unfolding fall_numbers table_rise table table_c continued to_turn to_half reduced numbers
-returns_2 c = fall_short c.before.args.shape 108 tabled-is c.if1.false
+returns_2 c = fall_short c.before.args.shape 108 tabled-is c.if-shape-eq0.false
 
 pub fall_108_spec : {M : Type 1} → statement M
 fall_108_spec = tie.close (tie.spec returns returns_2)

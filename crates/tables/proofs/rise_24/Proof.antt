@@ -8,13 +8,13 @@ use Rattle.tables.specs.HalfLaws.{rise_numbers, rise_long, rise_short}
 use Rattle.tables.proofs.rise_24.Statement.{statement}
 use Rattle.tables.proofs.rise_24.Tie as tie
 
-returns : tie.Need-returns
+returns : tie.Need-returns-then-shape-eq0
 unfolding rise_numbers table_rise table table_c continued to_turn to_half reduced numbers
-returns c = rise_long c.before.args.shape 24 c.if1.true
+returns c = rise_long c.before.args.shape 24 c.if-shape-eq0.true
 
-returns_2 : tie.Need-returns-2
+returns_2 : tie.Need-returns
 unfolding rise_numbers table_rise table table_c continued to_turn to_half reduced numbers
-returns_2 c = rise_short c.before.args.shape 24 c.if1.false
+returns_2 c = rise_short c.before.args.shape 24 c.if-shape-eq0.false
 
 pub rise_24_spec : {M : Type 1} → statement M
 rise_24_spec = tie.close (tie.spec returns returns_2)

@@ -28,10 +28,10 @@ module _ (s : tie.Start) where
   t = s.args.t.now
 
   sums-length : length t ≡ n / 2
-  sums-length = ap length s.pre.1.0.are ∙ length-table (folds n z) (n / 2)
+  sums-length = ap length s.requires.1.0.are ∙ length-table (folds n z) (n / 2)
 
   inputs-length : length z ≡ n / 2
-  inputs-length = ap length s.pre.0.is ∙ length-table (folded n (y n (at (rise_list s.args.left n)) (at (fall_list s.args.right n)) s.args.x.now)) (n / 2)
+  inputs-length = ap length s.requires.0.is ∙ length-table (folded n (y n (at (rise_list s.args.left n)) (at (fall_list s.args.right n)) s.args.x.now)) (n / 2)
 
   -- 36 products of 2^50
   sums_small : Small t (2 ^ 58)
@@ -39,14 +39,14 @@ module _ (s : tie.Start) where
       record {
         small = λ k p.
             let q : k < n / 2 = omega (arith, sums-length) in
-            let e : at t k ≡ folds n z k = ap (λ (l : List ℤ). at l k) s.pre.1.0.are ∙ get_d_table (folds n z) (pos 0) (n / 2) k q in
-            rw e (omega (arith, folds_abs n z (2 ^ 24) inputs-length s.pre.0.small k, s.pre.0.whole.most));
+            let e : at t k ≡ folds n z k = ap (λ (l : List ℤ). at l k) s.requires.1.0.are ∙ get_d_table (folds n z) (pos 0) (n / 2) k q in
+            rw e (omega (arith, folds_abs n z (2 ^ 24) inputs-length s.requires.0.small k, s.requires.0.whole.most));
       }
 
 spectrum_requires : tie.Need-spectrum-requires
 spectrum_requires c κs = let s = c.before in (s.requires.1.1 ∙ sym (sums-length s), sums_small s)
 
-same_length : tie.Need-same-length
+same_length : tie.Need-shape_of-out
 same_length c = search rules
 
 returns : tie.Need-returns

@@ -16,7 +16,7 @@ fold_requires c κs =
     let w = q.0.whole.twelve in
     (lent_halves n s.args.left s.args.right (length s.args.z.now) s.args.rise.now s.args.fall.now q.0 q.1.1, (omega (arith, q.1.0, q.1.1, w), omega (arith, q.1.1, w)))
 
-same_length : tie.Need-same-length
+same_length : tie.Need-shape_of-z
 same_length c = search rules
 
 returns : tie.Need-returns
@@ -25,7 +25,7 @@ returns c =
     let s = f.before.before in
     let q = s.requires in
     let is = folded-step s.args.n s.args.left s.args.right q.0.whole s.args.x.now (length s.args.z.now) s.args.rise.now s.args.fall.now _ q.1.1 q.0.rise q.0.fall f.fold.ensures.0 in
-    let made : Folded s.args.n s.args.left s.args.right s.args.x.now f.fold.new.1.1.1.0 = record { whole = q.0.whole; is = is; small = f.fold.ensures.1 } in
+    let made : Folded s.args.n s.args.left s.args.right s.args.x.now f.fold.new.z = record { whole = q.0.whole; is = is; small = f.fold.ensures.1 } in
     (made, folded_ready s.args.n s.args.left s.args.right s.args.x.now _ made)
 
 pub folded_block_spec : {M : Type 1} → statement M

@@ -6,10 +6,10 @@ use Rattle.coarsest.specs.SteppedLaws.{inverse_of, inverse_most}
 use Rattle.coarsest.proofs.stepped.inverse.Statement.{statement}
 use Rattle.coarsest.proofs.stepped.inverse.Tie as tie
 
-div_result : tie.Need-nonzero-div-result
+div_result : tie.Need-nonzero_div-result
 div_result c = search rules
 
-add_result : tie.Need-overflow-add-result
+add_result : tie.Need-overflow_add-result
 unfolding inverse_of
 add_result c = record { fits = omega (arith, inverse_most c.args.step c.requires) }
 

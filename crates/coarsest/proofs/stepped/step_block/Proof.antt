@@ -19,25 +19,25 @@ use Rattle.coarsest.proofs.stepped.step_block.Tie as tie
 abbrev each : ℕ → List ℤ → ℕ → ℤ
 each step x k = back step (level step (at x k))
 
-abbrev invariant-loop : tie.invariant-loop
+abbrev invariant-loop : tie.invariant-loop-k
 invariant-loop x₀ step inverse k₀ k_end x k = (k ≤ length x₀) × Filled (each step x₀) k x x₀
 
-abbrev decreases-loop : tie.decreases-loop
+abbrev decreases-loop : tie.decreases-loop-k
 decreases-loop x₀ step inverse k₀ k_end x k = length x₀ - k
 
-loop-holds : tie.Need-loop-init invariant-loop decreases-loop
+loop-holds : tie.Need-loop-k-init invariant-loop decreases-loop
 loop-holds c = (omega arith, filled_none (each c.args.step c.args.x.now) c.args.x.now)
 
-mul_stepped : tie.Need-overflow-mul-stepped invariant-loop decreases-loop
-mul_stepped c = omega (arith, c.before.loop.invariant.1.room)
+mul_stepped : tie.Need-offset_bounds-x-k invariant-loop decreases-loop
+mul_stepped c = omega (arith, c.before.loop-k.invariant.1.room)
 
-slice_copy_out_stepped : tie.Need-slice-copy-out-stepped invariant-loop decreases-loop
-slice_copy_out_stepped c = omega (arith, c.before.loop.invariant.1.room)
+slice_copy_out_stepped : tie.Need-slice_copy_out-stepped invariant-loop decreases-loop
+slice_copy_out_stepped c = omega (arith, c.before.loop-k.invariant.1.room)
 
 -- a coefficient as the machine has it: as it was before the loop
-module _ (c : tie.After-stepped-arg invariant-loop decreases-loop) where
+module _ (c : tie.After-stepped-arg-1 invariant-loop decreases-loop) where
   abbrev k : ℕ
-  k = c.before.before.loop.k
+  k = c.before.before.loop-k.k
 
   abbrev step : ℕ
   step = c.before.before.before.args.step
@@ -48,43 +48,43 @@ module _ (c : tie.After-stepped-arg invariant-loop decreases-loop) where
   x_abs : nat_abs (at x k) ≤ 216 * 2 ^ 21
   x_abs = c.before.before.before.requires.0.small k (omega arith)
 
-  x-is : to_z w32 (of_z w32 (at c.before.before.loop.x k)) ≡ at x k
-  x-is = rw (filled-rest (each step x) k c.before.before.loop.x x (pos 0) c.before.before.loop.invariant.1) (to_z-of_z (sfits_abs (at x k) (omega (arith, x_abs))))
+  x-is : to_z w32 (of_z w32 (at c.before.before.loop-k.x k)) ≡ at x k
+  x-is = rw (filled-rest (each step x) k c.before.before.loop-k.x x (pos 0) c.before.before.loop-k.invariant.1) (to_z-of_z {w = w32} (sfits_abs (at x k) (omega (arith, x_abs))))
 
 stepped_requires : tie.Need-stepped-requires invariant-loop decreases-loop
 stepped_requires c κs = (rw (x-is c) (x_abs c), c.before.before.before.requires.1)
 
-mul_t11 : tie.Need-overflow-mul-t11 invariant-loop decreases-loop
-mul_t11 c = omega (arith, c.before.before.before.loop.invariant.1.room)
+mul_t11 : tie.Need-offset_bounds-x-k-in-loop-k invariant-loop decreases-loop
+mul_t11 c = omega (arith, c.before.before.before.loop-k.invariant.1.room)
 
-slice_set_from_x : tie.Need-slice-set-from-x invariant-loop decreases-loop
-slice_set_from_x c = omega (arith, c.before.before.before.loop.invariant.1.room)
+slice_set_from_x : tie.Need-bounds-x-k invariant-loop decreases-loop
+slice_set_from_x c = omega (arith, c.before.before.before.loop-k.invariant.1.room)
 
-add_k : tie.Need-overflow-add-k invariant-loop decreases-loop
+add_k : tie.Need-overflow_step-k invariant-loop decreases-loop
 add_k c = omega arith
 
-loop-less : tie.Need-loop-smaller invariant-loop decreases-loop
+loop-less : tie.Need-loop-k-smaller invariant-loop decreases-loop
 loop-less c = omega arith
 
-loop-again : tie.Need-loop-preserved invariant-loop decreases-loop
+loop-again : tie.Need-loop-k-preserved invariant-loop decreases-loop
 loop-again c =
     let l = c.before.before.before in
     let a = l.before.args in (
       omega arith,
-      filled_more (each a.step a.x.now) l.loop.k l.loop.x a.x.now _ l.loop.invariant.1
-          (omega (arith, l.loop.invariant.1.room))
-          (to_z-of_z {w = w32} {z = c.stepped.result} (record { sfits = c.stepped.type-inv }) ∙ c.stepped.ensures ∙ ap (λ (z : ℤ). back a.step (level a.step z)) (x-is c.before)),
+      filled_more (each a.step a.x.now) l.loop-k.k l.loop-k.x a.x.now _ l.loop-k.invariant.1
+          (omega (arith, l.loop-k.invariant.1.room))
+          (to_z-of_z {w = w32} {z = c.stepped.result} (record { sfits = c.stepped.type_inv }) ∙ c.stepped.ensures ∙ ap (λ (z : ℤ). back a.step (level a.step z)) (x-is c.before)),
     )
 
-same_length : tie.Need-same-length invariant-loop decreases-loop
-same_length c = c.before.loop.invariant.1.room
+same_length : tie.Need-shape_of-x invariant-loop decreases-loop
+same_length c = c.before.loop-k.invariant.1.room
 
 returns : tie.Need-returns invariant-loop decreases-loop
 unfolding stepped
 returns c =
     let a = c.before.before.args in
-    let e : c.before.loop.k ≡ length a.x.now = omega arith in
-    filled-all (each a.step a.x.now) (length a.x.now) c.before.loop.x a.x.now (rw e at c.before.loop.invariant.1) refl
+    let e : c.before.loop-k.k ≡ length a.x.now = omega arith in
+    filled-all (each a.step a.x.now) (length a.x.now) c.before.loop-k.x a.x.now (rw e at c.before.loop-k.invariant.1) refl
 
 pub step_block_spec : {M : Type 1} → statement M
 step_block_spec =

@@ -17,18 +17,18 @@ said : (c : tie.After-magnitude) → c.magnitude.result ≡ nat_abs c.before.arg
 said c = c.magnitude.ensures ∙ ap nat_abs (to_z-of_z c.before.ranges.x)
 
 -- the multiple
-module _ (c : tie.After-nearest) where
+module _ (c : tie.After-nearest-size) where
   abbrev start : tie.Start
   start = c.before.before
 
   abbrev q : ℕ
-  q = multiple start.args.step start.pre.1.0 start.args.x start.pre.0
+  q = multiple start.args.step start.requires.1.0 start.args.x start.requires.0
 
   q_small : q ≤ 2 ^ 29
-  q_small = multiple_small start.args.step start.pre.1.0 start.args.x start.pre.0
+  q_small = multiple_small start.args.step start.requires.1.0 start.args.x start.requires.0
 
-  given : c.nearest.result ≡ q
-  given = c.nearest.ensures.0 ∙ ap (λ (n : ℕ). (n + start.args.step / 2) / start.args.step * start.args.step) (said c.before)
+  given : c.nearest-size.result ≡ q
+  given = c.nearest-size.ensures.0 ∙ ap (λ (n : ℕ). (n + start.args.step / 2) / start.args.step * start.args.step) (said c.before)
 
   q_is : to_z w32 q ≡ pos q
   q_is = to_z_pos w32 (omega (arith, q_small))
@@ -39,26 +39,26 @@ module _ (c : tie.After-nearest) where
 magnitude_requires : tie.Need-magnitude-requires
 magnitude_requires c κs = rw (to_z-of_z c.ranges.x) (omega (arith, c.requires.0))
 
-nearest_requires : tie.Need-nearest-requires
+nearest_requires : tie.Need-nearest-size-requires
 nearest_requires c κs = rw (said c) c.before.requires
 
-cast_size : tie.Need-overflow-cast-size
+cast_size : tie.Need-overflow_cast-size
 cast_size c = search rules
 
-sub_result : tie.Need-overflow-sub-result
+sub_result : tie.Need-overflow_sub-result
 sub_result c = rw (given c.before, q_is c.before) (negated_fits c.before)
 
-returns : tie.Need-returns
+returns : tie.Need-returns-then-x-lt0
 returns c =
     let n = c.before in
     let s = start n in
-    rw (given n, q_is n) (to_z-of_z (negated_fits n) ∙ sym (back_below s.args.step s.pre.1.0 s.args.x s.pre.0 (rw (to_z-of_z s.fits.x) at c.if1.true)))
+    rw (given n, q_is n) (to_z-of_z (negated_fits n) ∙ sym (back_below s.args.step s.requires.1.0 s.args.x s.requires.0 (rw (to_z-of_z s.ranges.x) at c.if-x-lt0.true)))
 
-returns_2 : tie.Need-returns-2
+returns_2 : tie.Need-returns
 returns_2 c =
     let n = c.before in
     let s = start n in
-    rw (given n) (q_is n ∙ sym (back_above s.args.step s.pre.1.0 s.args.x s.pre.0 (rw (to_z-of_z s.fits.x) at c.if1.false)))
+    rw (given n) (q_is n ∙ sym (back_above s.args.step s.requires.1.0 s.args.x s.requires.0 (rw (to_z-of_z s.ranges.x) at c.if-x-lt0.false)))
 
 pub stepped_spec : {M : Type 1} → statement M
 stepped_spec =

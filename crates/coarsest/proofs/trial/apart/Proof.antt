@@ -22,18 +22,18 @@ module _ (s : tie.Start) where
   d = s.args.a -ℤ s.args.b
 
   few : nat_abs d ≤ 65536
-  few = omega (arith, abs_sub s.args.a s.args.b, abs_sfits s.fits.a, abs_sfits s.fits.b)
+  few = omega (arith, abs_sub s.args.a s.args.b, abs_sfits s.ranges.a, abs_sfits s.ranges.b)
 
   d-fits : SFits w32 d
   d-fits = sfits_abs d (omega (arith, few))
 
-cast_magnitude : tie.Need-overflow-cast-magnitude
+cast_magnitude : tie.Need-overflow_cast-a
 cast_magnitude c = rw (to_z-of_z c.ranges.a) (widened c.ranges.a)
 
-cast_magnitude_2 : tie.Need-overflow-cast-magnitude-2
+cast_magnitude_2 : tie.Need-overflow_cast-b
 cast_magnitude_2 c = rw (to_z-of_z c.ranges.b) (widened c.ranges.b)
 
-sub_magnitude : tie.Need-overflow-sub-magnitude
+sub_magnitude : tie.Need-overflow_sub-a
 sub_magnitude c = rw (read c.ranges.a, read c.ranges.b) (d-fits c)
 
 magnitude_requires : tie.Need-magnitude-requires

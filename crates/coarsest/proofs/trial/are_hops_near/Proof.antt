@@ -25,11 +25,11 @@ use Rattle.coarsest.proofs.trial.are_hops_near.Tie as tie
 abbrev after : (step n : ℕ) → List ℤ → ℕ → List ℤ
 after step n x b = (stream_after n (stepped_block step n x) b).tail
 
-abbrev invariant-loop : tie.invariant-loop
+abbrev invariant-loop : tie.invariant-loop-b
 invariant-loop n hops x allowed step room₀ tail₀ out₀ inverse blocks b₀ room tail out b =
     (b ≤ hops + 1) × (1 ≤ b) × (tail ≡ after step n x (suc (b - 1))) × (all (b - 1) (hop_near step n hops x allowed) ≡ true) × (length room ≡ n / 2) × (length out ≡ n / 2)
 
-abbrev decreases-loop : tie.decreases-loop
+abbrev decreases-loop : tie.decreases-loop-b
 decreases-loop n hops x allowed step room₀ tail₀ out₀ inverse blocks b₀ room tail out b = hops + 1 - b
 
 module _ (s : tie.Start invariant-loop decreases-loop) where
@@ -43,12 +43,12 @@ module _ (s : tie.Start invariant-loop decreases-loop) where
   mine = stepped_block s.args.step n x
 
   fine : (b : ℕ) → Fine n (stream_after n mine b)
-  fine = stepped_stream_fine s.args.step n x s.pre.0.0
+  fine = stepped_stream_fine s.args.step n x s.requires.0.0
 
   -- what is handed in is a fresh stream's tail
   begins : s.args.tail.now ≡ (stream_after n mine 0).tail
   unfolding stream_after fresh
-  begins = s.pre.1.1
+  begins = s.requires.1.1
 
   -- and the tail after one step more
   goes_on : (b : ℕ) (t u : List ℤ) → t ≡ (stream_after n mine b).tail → u ≡ new_tail n (rising 0 n) (falling 0 n) t (mine b) → u ≡ (stream_after n mine (suc b)).tail
@@ -75,9 +75,9 @@ module _ (s : tie.Start invariant-loop decreases-loop) where
   tested h t r e f = f ∙ ap (hop_beside n x h s.args.allowed) (made-is h t e)
 
   some : 0 < n / 2
-  some = omega (arith, (tabled_length n s.pre.0.0).twelve, (tabled_length n s.pre.0.0).some)
+  some = omega (arith, (tabled_length n s.requires.0.0).twelve, (tabled_length n s.requires.0.0).some)
 
-inverse_requires : tie.Need-inverse-requires invariant-loop decreases-loop
+inverse_requires : tie.Need-inverse-inverse-requires invariant-loop decreases-loop
 inverse_requires c κs = c.requires.0.5
 
 advance_requires : tie.Need-advance-requires invariant-loop decreases-loop
@@ -85,102 +85,102 @@ advance_requires c κs =
     let s = c.before.before.before.before in
     let p = s.requires in
     let t = bounded s 0 s.args.tail.now (begins s) in
-    ((p.0.0, p.0.1, p.0.2, omega arith, p.0.3, p.0.4), ((p.0.5, c.before.before.before.inverse.ensures), (p.1.0, t.0, t.1, p.1.2)))
+    ((p.0.0, p.0.1, p.0.2, omega arith, p.0.3, p.0.4), ((p.0.5, c.before.before.before.inverse-inverse.ensures), (p.1.0, t.0, t.1, p.1.2)))
 
-add_blocks : tie.Need-overflow-add-blocks invariant-loop decreases-loop
+add_blocks : tie.Need-overflow_add-blocks invariant-loop decreases-loop
 add_blocks c = record { fits = omega (arith, c.before.before.before.before.before.before.before.before.requires.0.2) }
 
-loop-holds : tie.Need-loop-init invariant-loop decreases-loop
+loop-holds : tie.Need-loop-b-init invariant-loop decreases-loop
 loop-holds c =
     let s = c.before.before.before.before.before.before.before.before in
     let y = c.before.before.before.advance in (
       omega (arith, s.requires.0.1),
       omega arith,
-      goes_on s 0 s.args.tail.now y.new.1.1.1.1.1.1.1.0 (begins s) y.ensures.0,
+      goes_on s 0 s.args.tail.now y.new.tail (begins s) y.ensures.0,
       all_none (hop_near s.args.step (n s) s.args.hops (x s) s.args.allowed),
-      y.auto.1.1.1.1.1.1.0 ∙ s.requires.1.0,
-      y.auto.1.1.1.1.1.1.1.1.0 ∙ s.requires.1.2,
+      y.auto.room ∙ s.requires.1.0,
+      y.auto.out ∙ s.requires.1.2,
     )
 
-sub_is_hop_near : tie.Need-overflow-sub-is-hop-near invariant-loop decreases-loop
-sub_is_hop_near c = c.before.loop.invariant.1
+sub_is_hop_near : tie.Need-overflow_sub-b invariant-loop decreases-loop
+sub_is_hop_near c = c.before.loop-b.invariant.1
 
-is_hop_near_requires : tie.Need-is-hop-near-requires invariant-loop decreases-loop
+is_hop_near_requires : tie.Need-is_hop_near-requires invariant-loop decreases-loop
 is_hop_near_requires c κs =
     let s = c.before.before.before.before.before.before.before.before.before.before.before.before.before in
     let i = c.before.before.before in
-    let l = i.before.loop in
+    let l = i.before.loop-b in
     let p = s.requires in
     let t = bounded s (suc (l.b - 1)) l.tail l.invariant.2 in
-    ((p.0.0, p.0.1, p.0.2, omega (arith, i.loop-test.true, l.invariant.1), p.0.3, p.0.4), ((p.0.5, c.before.before.before.before.before.before.before.before.before.before.before.before.inverse.ensures), (l.invariant.4, t.0, t.1, l.invariant.5)))
+    ((p.0.0, p.0.1, p.0.2, omega (arith, i.loop-b-test.true, l.invariant.1), p.0.3, p.0.4), ((p.0.5, c.before.before.before.before.before.before.before.before.before.before.before.before.inverse-inverse.ensures), (l.invariant.4, t.0, t.1, l.invariant.5)))
 
-same_length : tie.Need-same-length invariant-loop decreases-loop
-same_length c = c.before.before.before.before.is-hop-near.auto.1.1.1.1.1.1.1.0 ∙ c.before.before.before.before.before.before.before.before.before.loop.invariant.4 ∙ sym c.before.before.before.before.before.before.before.before.before.before.before.before.before.before.before.before.before.before.requires.1.0
+same_length : tie.Need-shape_of-room-then-not-is_hop_near invariant-loop decreases-loop
+same_length c = c.before.before.before.before.is_hop_near.auto.room ∙ c.before.before.before.before.before.before.before.before.before.loop-b.invariant.4 ∙ sym c.before.before.before.before.before.before.before.before.before.before.before.before.before.before.before.before.before.before.requires.1.0
 
-same_length_2 : tie.Need-same-length-2 invariant-loop decreases-loop
+same_length_2 : tie.Need-shape_of-tail-then-not-is_hop_near invariant-loop decreases-loop
 same_length_2 c =
     let s = c.before.before.before.before.before.before.before.before.before.before.before.before.before.before.before.before.before.before in
-    let l = c.before.before.before.before.before.before.before.before.before.loop in
-    c.before.before.before.before.is-hop-near.auto.1.1.1.1.1.1.1.1.0 ∙ (bounded s (suc (l.b - 1)) l.tail l.invariant.2).0 ∙ sym (bounded s 0 s.args.tail.now (begins s)).0
+    let l = c.before.before.before.before.before.before.before.before.before.loop-b in
+    c.before.before.before.before.is_hop_near.auto.tail ∙ (bounded s (suc (l.b - 1)) l.tail l.invariant.2).0 ∙ sym (bounded s 0 s.args.tail.now (begins s)).0
 
-same_length_3 : tie.Need-same-length-3 invariant-loop decreases-loop
-same_length_3 c = c.before.before.before.before.is-hop-near.auto.1.1.1.1.1.1.1.1.1.0 ∙ c.before.before.before.before.before.before.before.before.before.loop.invariant.5 ∙ sym c.before.before.before.before.before.before.before.before.before.before.before.before.before.before.before.before.before.before.requires.1.2
+same_length_3 : tie.Need-shape_of-out-then-not-is_hop_near invariant-loop decreases-loop
+same_length_3 c = c.before.before.before.before.is_hop_near.auto.out ∙ c.before.before.before.before.before.before.before.before.before.loop-b.invariant.5 ∙ sym c.before.before.before.before.before.before.before.before.before.before.before.before.before.before.before.before.before.before.requires.1.2
 
-returns : tie.Need-returns invariant-loop decreases-loop
+returns : tie.Need-returns-then-not-is_hop_near invariant-loop decreases-loop
 returns c =
     let s = c.before.before.before.before.before.before.before.before.before.before.before.before.before.before.before.before.before.before in
-    let y = c.before.before.before.before.is-hop-near in
+    let y = c.before.before.before.before.is_hop_near in
     let i = c.before.before.before.before.before.before.before.before in
-    let l = i.before.loop in
+    let l = i.before.loop-b in
     let a = s.args in
-    sym (one_far a.step (n s) a.hops (x s) a.allowed (l.b - 1) (omega (arith, i.loop-test.true, l.invariant.1))
-    (sym (tested s (l.b - 1) l.tail y.result l.invariant.2 y.ensures.1) ∙ not-true y.result c.if1.true))
+    sym (one_far a.step (n s) a.hops (x s) a.allowed (l.b - 1) (omega (arith, i.loop-b-test.true, l.invariant.1))
+    (sym (tested s (l.b - 1) l.tail y.result l.invariant.2 y.ensures.1) ∙ not-true y.result c.if-not-is_hop_near.true-raw))
 
-add_b : tie.Need-overflow-add-b invariant-loop decreases-loop
-add_b c = record { fits = omega (arith, c.before.before.before.before.before.before.before.before.before.before.before.before.before.before.before.before.before.before.requires.0.2, c.before.before.before.before.before.before.before.before.loop-test.true) }
+add_b : tie.Need-overflow_step-b invariant-loop decreases-loop
+add_b c = record { fits = omega (arith, c.before.before.before.before.before.before.before.before.before.before.before.before.before.before.before.before.before.before.requires.0.2, c.before.before.before.before.before.before.before.before.loop-b-test.true) }
 
-loop-less : tie.Need-loop-smaller invariant-loop decreases-loop
-loop-less c = omega (arith, c.before.before.before.before.before.before.before.before.loop-test.true)
+loop-less : tie.Need-loop-b-smaller invariant-loop decreases-loop
+loop-less c = omega (arith, c.before.before.before.before.before.before.before.before.loop-b-test.true)
 
-loop-again : tie.Need-loop-preserved invariant-loop decreases-loop
+loop-again : tie.Need-loop-b-preserved invariant-loop decreases-loop
 loop-again c =
     let s = c.before.before.before.before.before.before.before.before.before.before.before.before.before.before.before.before.before.before in
-    let y = c.before.before.before.before.is-hop-near in
+    let y = c.before.before.before.before.is_hop_near in
     let i = c.before.before.before.before.before.before.before.before in
-    let l = i.before.loop in
+    let l = i.before.loop-b in
     let a = s.args in
     let h = l.b - 1 in
-    let t = y.new.1.1.1.1.1.1.1.1.0 in
+    let t = y.new.tail in
     let e : l.b + 1 - 1 ≡ h + 1 = omega (arith, l.invariant.1) in (
-      omega (arith, i.loop-test.true),
+      omega (arith, i.loop-b-test.true),
       omega arith,
       goes_on s (suc h) l.tail t l.invariant.2 (y.ensures.0 ∙ ap (λ (b : ℕ). new_tail (n s) (rising 0 (n s)) (falling 0 (n s)) l.tail (mine s b)) (add-one h))
           ∙ ap (λ (b : ℕ). (stream_after (n s) (mine s) (suc b)).tail) (sym (e ∙ add-one h)),
       ap (λ (k : ℕ). all k (hop_near a.step (n s) a.hops (x s) a.allowed)) e
           ∙ all-next h (hop_near a.step (n s) a.hops (x s) a.allowed) l.invariant.3
-          (sym (tested s h l.tail y.result l.invariant.2 y.ensures.1) ∙ not-false y.result c.if1.false),
-      y.auto.1.1.1.1.1.1.1.0 ∙ l.invariant.4,
-      y.auto.1.1.1.1.1.1.1.1.1.0 ∙ l.invariant.5,
+          (sym (tested s h l.tail y.result l.invariant.2 y.ensures.1) ∙ not-false y.result c.if-not-is_hop_near.false-raw),
+      y.auto.room ∙ l.invariant.4,
+      y.auto.out ∙ l.invariant.5,
     )
 
-same_length_4 : tie.Need-same-length-4 invariant-loop decreases-loop
-same_length_4 c = c.before.loop.invariant.4 ∙ sym c.before.before.before.before.before.before.before.before.before.before.requires.1.0
+same_length_4 : tie.Need-shape_of-room invariant-loop decreases-loop
+same_length_4 c = c.before.loop-b.invariant.4 ∙ sym c.before.before.before.before.before.before.before.before.before.before.requires.1.0
 
-same_length_5 : tie.Need-same-length-5 invariant-loop decreases-loop
+same_length_5 : tie.Need-shape_of-tail invariant-loop decreases-loop
 same_length_5 c =
     let s = c.before.before.before.before.before.before.before.before.before.before in
-    let l = c.before.loop in
+    let l = c.before.loop-b in
     (bounded s (suc (l.b - 1)) l.tail l.invariant.2).0 ∙ sym (bounded s 0 s.args.tail.now (begins s)).0
 
-same_length_6 : tie.Need-same-length-6 invariant-loop decreases-loop
-same_length_6 c = c.before.loop.invariant.5 ∙ sym c.before.before.before.before.before.before.before.before.before.before.requires.1.2
+same_length_6 : tie.Need-shape_of-out invariant-loop decreases-loop
+same_length_6 c = c.before.loop-b.invariant.5 ∙ sym c.before.before.before.before.before.before.before.before.before.before.requires.1.2
 
-returns_2 : tie.Need-returns-2 invariant-loop decreases-loop
+returns_2 : tie.Need-returns invariant-loop decreases-loop
 returns_2 c =
-    let l = c.before.loop in
+    let l = c.before.loop-b in
     let s = c.before.before.before.before.before.before.before.before.before.before in
     let a = s.args in
-    let e : l.b - 1 ≡ a.hops = omega (arith, l.invariant.0, l.invariant.1, c.loop-test.false) in
+    let e : l.b - 1 ≡ a.hops = omega (arith, l.invariant.0, l.invariant.1, c.loop-b-test.false) in
     sym (all_near a.step (n s) a.hops (x s) a.allowed (some s) (ap (λ (h : ℕ). all h (hop_near a.step (n s) a.hops (x s) a.allowed)) (sym e) ∙ l.invariant.3))
 
 pub are_hops_near_spec : {M : Type 1} → statement M

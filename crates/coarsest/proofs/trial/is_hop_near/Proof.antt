@@ -25,7 +25,7 @@ module _ (s : tie.Start) where
   x = s.args.x.now
 
   lies_here : Lies s.args.n s.args.hops (length x) s.args.h
-  lies_here = lies s.args.n s.pre.0.0 s.args.hops (length x) s.args.h s.pre.0.2 s.pre.0.4 s.pre.0.3
+  lies_here = lies s.args.n s.requires.0.0 s.args.hops (length x) s.args.h s.requires.0.2 s.requires.0.4 s.requires.0.3
 
   -- the recording's own hop, as it is lent
   abbrev own : List ℤ
@@ -37,7 +37,7 @@ module _ (s : tie.Start) where
   own_at : (n : ℕ) → n < M → at own n ≡ at x (place + n)
   own_at n p = part_at x place (place + M - place) M (omega arith) lies_here.ends n p
 
-add_advance : tie.Need-overflow-add-advance
+add_advance : tie.Need-overflow_add-h
 add_advance c = search rules
 
 advance_requires : tie.Need-advance-requires
@@ -45,45 +45,45 @@ advance_requires c κs =
     let p = c.before.before.before.requires in
     ((p.0.0, p.0.1, p.0.2, omega (arith, p.0.3), p.0.4, p.0.5), (p.1.0, p.1.1))
 
-mul_at : tie.Need-overflow-mul-at
+mul_at : tie.Need-overflow_mul-at
 mul_at c = let o = lies_here c.before.before.before.before.before.before.before in record { fits = omega (arith, o.ends, o.few) }
 
-add_is_near : tie.Need-overflow-add-is-near
-add_is_near c = let o = lies_here c.before.before.before.before.before.before.before.before in record { fits = omega (arith, o.ends, o.few) }
+add_is_near : tie.Need-overflow_add-at
+add_is_near c = let o = lies_here c.before.before.before.before.before.before.before in record { fits = omega (arith, o.ends, o.few) }
 
-mul_is_near : tie.Need-overflow-mul-is-near
-mul_is_near c = let o = lies_here c.before.before.before.before.before.before.before.before in record { fits = omega (arith, o.ends, o.few) }
+mul_is_near : tie.Need-offset_bounds-x-at
+mul_is_near c = let o = lies_here c.before.before.before.before.before.before.before in record { fits = omega (arith, o.ends, o.few) }
 
-sub_is_near : tie.Need-overflow-sub-is-near
+sub_is_near : tie.Need-slice_bounds-is_near-count
 sub_is_near c = search rules
 
-part_is_near_start : tie.Need-slice-bounds-is-near-start
+part_is_near_start : tie.Need-slice_bounds-is_near-start
 part_is_near_start c = search rules
 
-part_is_near_end : tie.Need-slice-bounds-is-near-end
-part_is_near_end c = omega (arith, (lies_here c.before.before.before.before.before.before.before.before).ends)
+part_is_near_end : tie.Need-slice_bounds-is_near-end
+part_is_near_end c = omega (arith, (lies_here c.before.before.before.before.before.before.before).ends)
 
-is_near_requires : tie.Need-is-near-requires
+is_near_requires : tie.Need-is_near-requires
 is_near_requires c κs =
-    let s = c.before.before.before.before.before.before.before.before.before in
-    c.before.before.before.before.before.advance.auto.1.1.1.1.1.1.1.1.0 ∙ s.requires.1.1.3 ∙ sym (own_long s)
+    let s = c.before.before.before.before.before.before.before.before in
+    c.before.before.before.before.advance.auto.out ∙ s.requires.1.1.3 ∙ sym (own_long s)
 
-same_length : tie.Need-same-length
+same_length : tie.Need-shape_of-room
 same_length c = search rules
 
-same_length_2 : tie.Need-same-length-2
+same_length_2 : tie.Need-shape_of-tail
 same_length_2 c = search rules
 
-same_length_3 : tie.Need-same-length-3
+same_length_3 : tie.Need-shape_of-out
 same_length_3 c = search rules
 
 returns : tie.Need-returns
 returns c =
-    let s = c.before.before.before.before.before.before.before.before.before.before in
+    let s = c.before.before.before.before.before.before.before.before.before in
     let a = s.args in
-    let y = c.before.before.before.before.before.before.advance in (
+    let y = c.before.before.before.before.before.advance in (
       y.ensures.0,
-      c.is-near.ensures ∙ beside-own a.n (x s) a.h a.allowed y.new.1.1.1.1.1.1.1.1.0 (own s) (own_long s) (own_at s) ∙ ap (hop_beside a.n (x s) a.h a.allowed) y.ensures.1,
+      c.is_near.ensures ∙ beside-own a.n (x s) a.h a.allowed y.new.out (own s) (own_long s) (own_at s) ∙ ap (hop_beside a.n (x s) a.h a.allowed) y.ensures.1,
     )
 
 pub is_hop_near_spec : {M : Type 1} → statement M

@@ -18,25 +18,25 @@ use Rattle.coarsest.proofs.trial.is_near.Tie as tie
 abbrev test : (hop own : List ℤ) → ℕ → ℕ → Bool
 test hop own allowed n = leb (nat_abs (at hop n -ℤ at own n)) allowed
 
-abbrev invariant-loop : tie.invariant-loop
+abbrev invariant-loop : tie.invariant-loop-i
 invariant-loop hop own allowed i₀ i_end i = (i ≤ length own) × (all i (test hop own allowed) ≡ true)
 
-abbrev decreases-loop : tie.decreases-loop
+abbrev decreases-loop : tie.decreases-loop-i
 decreases-loop hop own allowed i₀ i_end i = length own - i
 
-loop-holds : tie.Need-loop-init invariant-loop decreases-loop
+loop-holds : tie.Need-loop-i-init invariant-loop decreases-loop
 loop-holds c = (omega arith, all_none (test c.args.hop.now c.args.own.now c.args.allowed))
 
-mul_apart : tie.Need-overflow-mul-apart invariant-loop decreases-loop
+mul_apart : tie.Need-offset_bounds-hop-i invariant-loop decreases-loop
 mul_apart c = omega (arith, c.before.before.requires)
 
-shared_slice_copy_out_apart : tie.Need-shared-slice-copy-out-apart invariant-loop decreases-loop
+shared_slice_copy_out_apart : tie.Need-bounds-hop-i invariant-loop decreases-loop
 shared_slice_copy_out_apart c = omega (arith, c.before.before.requires)
 
-mul_apart_2 : tie.Need-overflow-mul-apart-2 invariant-loop decreases-loop
+mul_apart_2 : tie.Need-offset_bounds-own-i invariant-loop decreases-loop
 mul_apart_2 c = omega arith
 
-shared_slice_copy_out_apart_2 : tie.Need-shared-slice-copy-out-apart-2 invariant-loop decreases-loop
+shared_slice_copy_out_apart_2 : tie.Need-bounds-own-i invariant-loop decreases-loop
 shared_slice_copy_out_apart_2 c = omega arith
 
 apart_requires : tie.Need-apart-requires invariant-loop decreases-loop
@@ -48,44 +48,44 @@ module _ (c : tie.After-apart invariant-loop decreases-loop) where
   start = c.before.before.before.before.before
 
   abbrev i : ℕ
-  i = c.before.before.before.before.loop.i
+  i = c.before.before.before.before.loop-i.i
 
   distance : c.apart.result ≡ nat_abs (at start.args.hop.now i -ℤ at start.args.own.now i)
   distance =
       c.apart.ensures
       ∙ ap₂ (λ (a b : ℤ). nat_abs (a -ℤ b))
-      (to_z-of_z {w = w16} {z = at start.args.hop.now i} (record { sfits = c.before.before.apart-arg.given }))
-      (to_z-of_z {w = w16} {z = at start.args.own.now i} (record { sfits = c.before.apart-arg2.given }))
+      (to_z-of_z {w = w16} {z = at start.args.hop.now i} (record { sfits = c.before.before.apart-arg-1.given }))
+      (to_z-of_z {w = w16} {z = at start.args.own.now i} (record { sfits = c.before.apart-arg-in-loop-i-1.given }))
 
-returns : tie.Need-returns invariant-loop decreases-loop
+returns : tie.Need-returns-then-allowed-apart invariant-loop decreases-loop
 returns c =
     let d = c.before in
     let a = (start d).args in
     sym (all_stop (length a.own.now) (test a.hop.now a.own.now a.allowed) (i d) (omega arith)
-    (lt-leb (nat_abs (at a.hop.now (i d) -ℤ at a.own.now (i d))) a.allowed (omega (arith, distance d, c.if1.true))))
+    (lt-leb (nat_abs (at a.hop.now (i d) -ℤ at a.own.now (i d))) a.allowed (omega (arith, distance d, c.if-allowed-apart.true))))
 
-add_i : tie.Need-overflow-add-i invariant-loop decreases-loop
+add_i : tie.Need-overflow_step-i invariant-loop decreases-loop
 add_i c = omega arith
 
-loop-less : tie.Need-loop-smaller invariant-loop decreases-loop
+loop-less : tie.Need-loop-i-smaller invariant-loop decreases-loop
 loop-less c = omega arith
 
-loop-again : tie.Need-loop-preserved invariant-loop decreases-loop
+loop-again : tie.Need-loop-i-preserved invariant-loop decreases-loop
 loop-again c =
     let d = c.before in
     let a = (start d).args in
     let l = d.before.before.before.before in (
       omega arith,
-      all-next (i d) (test a.hop.now a.own.now a.allowed) l.loop.invariant.1
-          (le-leb (nat_abs (at a.hop.now (i d) -ℤ at a.own.now (i d))) a.allowed (omega (arith, distance d, c.if1.false))),
+      all-next (i d) (test a.hop.now a.own.now a.allowed) l.loop-i.invariant.1
+          (le-leb (nat_abs (at a.hop.now (i d) -ℤ at a.own.now (i d))) a.allowed (omega (arith, distance d, c.if-allowed-apart.false))),
     )
 
-returns_2 : tie.Need-returns-2 invariant-loop decreases-loop
+returns_2 : tie.Need-returns invariant-loop decreases-loop
 returns_2 c =
     let l = c.before in
     let a = l.before.args in
-    let e : l.loop.i ≡ length a.own.now = omega arith in
-    sym (ap (λ (j : ℕ). all j (test a.hop.now a.own.now a.allowed)) (sym e) ∙ l.loop.invariant.1)
+    let e : l.loop-i.i ≡ length a.own.now = omega arith in
+    sym (ap (λ (j : ℕ). all j (test a.hop.now a.own.now a.allowed)) (sym e) ∙ l.loop-i.invariant.1)
 
 pub is_near_spec : {M : Type 1} → statement M
 is_near_spec =

@@ -18,32 +18,32 @@ small s = omega (arith, (tabled_length s.args.n s.requires.0).most)
 lent_long : (s : tie.Start) (room : List ℤ) → length room ≡ 108 → length (take (s.args.n / 2) room) ≡ s.args.n / 2
 lent_long s room l = length-take-le (s.args.n / 2) room (omega (arith, l, small s))
 
-wide : (c : tie.After-room) → length c.room.result ≡ 108
-wide c = ap length c.room.ensures ∙ length-replicate 108 (pos 0)
+wide : (c : tie.After-room-room) → length c.room-room.result ≡ 108
+wide c = ap length c.room-room.ensures ∙ length-replicate 108 (pos 0)
 
-room_requires : tie.Need-room-requires
+room_requires : tie.Need-room-room-requires
 room_requires c κs = search rules
 
-array_borrow_prefix_room : tie.Need-array-borrow-prefix-room
+array_borrow_prefix_room : tie.Need-slice_bounds-room-end
 array_borrow_prefix_room c = omega (arith, wide c, small c.before)
 
-slice_aggregate_are_hops_near : tie.Need-slice-aggregate-are-hops-near
-slice_aggregate_are_hops_near c = sym (lent_long c.before.before c.before.room.result (wide c.before))
+slice_aggregate_are_hops_near : tie.Need-slice_bounds-are_hops_near-end
+slice_aggregate_are_hops_near c = sym (lent_long c.before.before c.before.room-room.result (wide c.before))
 
-slice_aggregate_are_hops_near_2 : tie.Need-slice-aggregate-are-hops-near-2
+slice_aggregate_are_hops_near_2 : tie.Need-slice_bounds-are_hops_near-end-2
 slice_aggregate_are_hops_near_2 c = search rules
 
-array_borrow_prefix_out : tie.Need-array-borrow-prefix-out
+array_borrow_prefix_out : tie.Need-slice_bounds-out-end
 array_borrow_prefix_out c = small c.before.before.before
 
-slice_aggregate_are_hops_near_3 : tie.Need-slice-aggregate-are-hops-near-3
+slice_aggregate_are_hops_near_3 : tie.Need-slice_bounds-are_hops_near-end-3
 slice_aggregate_are_hops_near_3 c = sym (lent_long c.before.before.before.before (replicate 108 (pos 0)) refl)
 
-are_hops_near_requires : tie.Need-are-hops-near-requires
+are_hops_near_requires : tie.Need-are_hops_near-requires
 are_hops_near_requires c κs =
     let s = c.before.before.before.before in
     let r = c.before.before.before in
-    (s.requires, (lent_long s r.room.result (wide r), refl, lent_long s (replicate 108 (pos 0)) refl))
+    (s.requires, (lent_long s r.room-room.result (wide r), refl, lent_long s (replicate 108 (pos 0)) refl))
 
 returns : tie.Need-returns
 returns c = search rules

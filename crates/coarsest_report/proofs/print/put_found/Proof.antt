@@ -6,25 +6,22 @@ use borrow.Author.Rules.{rules}
 use Rattle.coarsest_report.proofs.print.put_found.Statement.{statement}
 use Rattle.coarsest_report.proofs.print.put_found.Tie as tie
 
-slice_aggregate_put_text : tie.Need-slice-aggregate-put-text
-slice_aggregate_put_text c = search rules
-
-put_text_requires : tie.Need-put-text-requires
+put_text_requires : tie.Need-put_text-at-requires
 put_text_requires c κs = search rules
 
-put_first_requires : tie.Need-put-first-requires
+put_first_requires : tie.Need-put_first-at-requires
 put_first_requires c κs = search rules
 
-put_more_requires : tie.Need-put-more-requires
+put_more_requires : tie.Need-put_more-at-requires
 put_more_requires c κs = search rules
 
-put_more_requires_2 : tie.Need-put-more-requires-2
+put_more_requires_2 : tie.Need-put_more-at-requires-2
 put_more_requires_2 c κs = search rules
 
-put_byte_requires : tie.Need-put-byte-requires
+put_byte_requires : tie.Need-put_byte-requires
 put_byte_requires c κs = search rules
 
-same_length : tie.Need-same-length
+same_length : tie.Need-shape_of-out
 same_length c = search rules
 
 returns : tie.Need-returns
@@ -36,15 +33,14 @@ returns c =
     let w = f.before.before.before.before in
     let s = w.before.before.before.before in (
       rw (found-is s.args.step s.args.trials s.args.untried) at
-          (put_then (put_then (put_then (put_then w.put-text.ensures f.put_first.ensures.0) t.put_more.ensures.0) u.put-more2.ensures.0) e.put_byte.ensures),
-      omega (arith, w.put-text.ensures.behind, f.put_first.ensures.1, t.put_more.ensures.1, u.put-more2.ensures.1, e.put_byte.ensures.behind),
+          (put_then (put_then (put_then (put_then w.put_text-at.ensures f.put_first-at.ensures.0) t.put_more-at.ensures.0) u.put_more-at-2.ensures.0) e.put_byte.ensures),
+      omega (arith, w.put_text-at.ensures.behind, f.put_first-at.ensures.1, t.put_more-at.ensures.1, u.put_more-at-2.ensures.1, e.put_byte.ensures.behind),
     )
 
 pub put_found_spec : {M : Type 1} → statement M
 put_found_spec =
     tie.close
     (tie.spec
-    slice_aggregate_put_text
     put_text_requires
     put_first_requires
     put_more_requires

@@ -21,13 +21,13 @@ module _ (s : tie.Start) where
   count = s.args.hops * (s.args.n / 2)
 
   few : count ≤ 32768
-  few = omega (arith, hops_bytes s.pre)
+  few = omega (arith, hops_bytes s.requires)
 
   abbrev read : List ℤ
   read = recording (hops_of s.args.input.now)
 
   read_long : length read ≡ count
-  read_long = recording_long (s.args.n / 2) (hops_of s.args.input.now) (taken-hops s.pre) ∙ ap (λ (h : ℕ). h * (s.args.n / 2)) (hops-counted s.pre)
+  read_long = recording_long (s.args.n / 2) (hops_of s.args.input.now) (taken-hops s.requires) ∙ ap (λ (h : ℕ). h * (s.args.n / 2)) (hops-counted s.requires)
 
   -- what is lent of the room, before it is read and after
   lent_long : (room : List ℤ) → length room ≡ 32768 → length (take count room) ≡ count
@@ -36,44 +36,44 @@ module _ (s : tie.Start) where
   lent-read : (ys rest : List ℤ) → ys ≡ read → take count (ys ++ rest) ≡ read
   lent-read ys rest e = take_at ys rest count (ap length e ∙ read_long) ∙ e
 
-mul_count : tie.Need-overflow-mul-count
+mul_count : tie.Need-overflow_mul-count
 mul_count c = record { fits = omega (arith, few c.before) }
 
-samples_room_requires : tie.Need-samples-room-requires
+samples_room_requires : tie.Need-samples_room-room-requires
 samples_room_requires c κs = search rules
 
-array_borrow_prefix_room : tie.Need-array-borrow-prefix-room
-array_borrow_prefix_room c = omega (arith, c.samples-room.ensures, few c.before.before)
+array_borrow_prefix_room : tie.Need-slice_bounds-room-end
+array_borrow_prefix_room c = omega (arith, c.samples_room-room.ensures, few c.before.before)
 
-slice_aggregate_read_recording : tie.Need-slice-aggregate-read-recording
-slice_aggregate_read_recording c = sym (lent_long c.before.before.before c.before.samples-room.result c.before.samples-room.ensures)
+slice_aggregate_read_recording : tie.Need-slice_bounds-read_recording-end
+slice_aggregate_read_recording c = sym (lent_long c.before.before.before c.before.samples_room-room.result c.before.samples_room-room.ensures)
 
-read_recording_requires : tie.Need-read-recording-requires
-read_recording_requires c κs = let s = c.before.before.before in (s.requires, lent_long s c.before.samples-room.result c.before.samples-room.ensures)
+read_recording_requires : tie.Need-read_recording-requires
+read_recording_requires c κs = let s = c.before.before.before in (s.requires, lent_long s c.before.samples_room-room.result c.before.samples_room-room.ensures)
 
-array_share_prefix_room : tie.Need-array-share-prefix-room
+array_share_prefix_room : tie.Need-slice_bounds-room-end-2
 array_share_prefix_room c =
     let s = c.before.before.before.before.before in
-    let ys = c.before.read-recording.new.1.1.1.0 in
-    let rest = drop (count s) c.before.before.before.samples-room.result in
-    omega (arith, length-append ys rest, ap length c.before.read-recording.ensures ∙ read_long s)
+    let ys = c.before.read_recording.new.out in
+    let rest = drop (count s) c.before.before.before.samples_room-room.result in
+    omega (arith, length-append ys rest, ap length c.before.read_recording.ensures ∙ read_long s)
 
-slice_aggregate_coarsest_step : tie.Need-slice-aggregate-coarsest-step
+slice_aggregate_coarsest_step : tie.Need-slice_bounds-coarsest_step-end
 slice_aggregate_coarsest_step c =
     let s = c.before.before.before.before.before.before in
-    let y = c.before.before.read-recording in
-    sym (ap length (lent-read s y.new.1.1.1.0 (drop (count s) c.before.before.before.before.samples-room.result) y.ensures) ∙ read_long s)
+    let y = c.before.before.read_recording in
+    sym (ap length (lent-read s y.new.out (drop (count s) c.before.before.before.before.samples_room-room.result) y.ensures) ∙ read_long s)
 
-coarsest_step_requires : tie.Need-coarsest-step-requires
+coarsest_step_requires : tie.Need-coarsest_step-requires
 coarsest_step_requires c κs = search rules
 
 returns : tie.Need-returns
 returns c =
     let s = c.before.before.before.before.before.before.before in
-    let y = c.before.before.before.read-recording in
-    c.coarsest-step.ensures
+    let y = c.before.before.before.read_recording in
+    c.coarsest_step.ensures
     ∙ ap (λ (l : List ℤ). coarsest_answer s.args.n s.args.hops l s.args.allowed s.args.budget)
-    (lent-read s y.new.1.1.1.0 (drop (count s) c.before.before.before.before.before.samples-room.result) y.ensures)
+    (lent-read s y.new.out (drop (count s) c.before.before.before.before.before.samples_room-room.result) y.ensures)
 
 pub answer_spec : {M : Type 1} → statement M
 answer_spec =

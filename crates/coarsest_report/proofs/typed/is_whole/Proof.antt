@@ -16,29 +16,29 @@ use Rattle.coarsest_report.proofs.typed.is_whole.Statement.{statement}
 use Rattle.coarsest_report.proofs.typed.is_whole.Tie as tie
 
 -- behind the test of the form
-module _ (c : tie.Else1) where
+module _ (c : tie.Else-not-is_number) where
   abbrev start : tie.Start
   start = c.before.before.before
 
   form : is_number start.args.most start.args.typed.now ≡ true
-  form = sym c.before.is_number.ensures ∙ not-false c.before.is_number.result c.if1.false
+  form = sym c.before.is_number.ensures ∙ not-false c.before.is_number.result c.if-not-is_number.false-raw
 
-is_number_requires : tie.Need-is-number-requires
+is_number_requires : tie.Need-is_number-requires
 is_number_requires c κs = search rules
 
-returns : tie.Need-returns
+returns : tie.Need-returns-then-not-is_number
 returns c =
     let a = c.before.before.before.args in
-    sym (no_number a.most a.typed.now (sym c.before.is_number.ensures ∙ not-true c.before.is_number.result c.if1.true))
+    sym (no_number a.most a.typed.now (sym c.before.is_number.ensures ∙ not-true c.before.is_number.result c.if-not-is_number.true-raw))
 
 value_requires : tie.Need-value-requires
-value_requires c κs = let s = start c in number_wider s.args.most most_digits s.args.typed.now s.pre (is_T (form c))
+value_requires c κs = let s = start c in number_wider s.args.most most_digits s.args.typed.now s.requires (is_T (form c))
 
-returns_2 : tie.Need-returns-2
+returns_2 : tie.Need-returns
 returns_2 c =
     let e = c.before in
     let a = (start e).args in
-    let v : to_z w64 (of_z w64 c.value.result) ≡ value a.typed.now = to_z-of_z (record { sfits = c.value.type-inv }) ∙ c.value.ensures in
+    let v : to_z w64 (of_z w64 c.value.result) ≡ value a.typed.now = to_z-of_z {w = w64} (record { sfits = c.value.type_inv }) ∙ c.value.ensures in
     ap (λ (z : ℤ). le_z (pos 0) z) v ∙ sym (by_sign a.most a.typed.now (form e))
 
 pub is_whole_spec : {M : Type 1} → statement M

@@ -20,7 +20,7 @@ join_requires c κs =
     let h = sums s in
     (b_long n y a b g h ∙ sym (a_long n y a b g h), (g_long n y a b g h ∙ sym (a_long n y a b g h), (s.requires.1.1 ∙ sym (half n y a b g h), (a_small n y a b g h, (b_small n y a b g h, g_small n y a b g h)))))
 
-same_length : tie.Need-same-length
+same_length : tie.Need-shape_of-out
 same_length c = search rules
 
 returns : tie.Need-returns

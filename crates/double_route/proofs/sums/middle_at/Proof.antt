@@ -13,7 +13,7 @@ use borrow.Author.Rules.{rules}
 use Rattle.double_route.proofs.sums.middle_at.Statement.{statement}
 use Rattle.double_route.proofs.sums.middle_at.Tie as tie
 
-module _ (c : tie.After-result) where
+module _ (c : tie.After-result-1) where
   abbrev k : ℕ
   k = c.before.args.k
 
@@ -21,18 +21,18 @@ module _ (c : tie.After-result) where
   a = c.before.args.a.now
 
   a_is : to_z w64 (of_z w64 (at a k)) ≡ at a k
-  a_is = to_z-of_z {w = w64} {z = at a k} (record { sfits = c.result.given })
+  a_is = to_z-of_z {w = w64} {z = at a k} (record { sfits = c.result-1.given })
 
   twice-fits : SFits w64 (pos 2 *ℤ at a k)
   twice-fits = let q = c.before.requires in sfits_abs (pos 2 *ℤ at a k) (omega (arith, abs_mul (pos 2) (at a k), q.1.small k q.0))
 
-mul_result : tie.Need-overflow-mul-result
+mul_result : tie.Need-offset_bounds-a-k
 mul_result c = search rules
 
-shared_slice_copy_out_result : tie.Need-shared-slice-copy-out-result
+shared_slice_copy_out_result : tie.Need-bounds-a-k
 shared_slice_copy_out_result c = search rules
 
-mul_result_2 : tie.Need-overflow-mul-result-2
+mul_result_2 : tie.Need-overflow_mul-result
 mul_result_2 c = rw (a_is c) (twice-fits c)
 
 returns : tie.Need-returns

@@ -23,35 +23,35 @@ module _ (c : tie.Start) where
   room_24 : t ≤ 24
   room_24 = omega (arith, short-most c.args.n c.requires.0.short)
 
-module _ (c : tie.After-outer-third) where
+module _ (c : tie.After-outer_third) where
   abbrev s : tie.Start
   s = c.before.before
 
   abbrev filled : List ℤ
-  filled = c.outer-third.new.1.1.1.1.1.0
+  filled = c.outer_third.new.w
 
   is : filled ≡ third s.args.which s.args.n (at s.args.y.now)
-  is = c.outer-third.ensures
+  is = c.outer_third.ensures
 
   long : length filled ≡ t s
   long = ap length is ∙ third_length s.args.which s.args.n (at s.args.y.now)
 
-array_borrow_prefix_room : tie.Need-array-borrow-prefix-room
+array_borrow_prefix_room : tie.Need-slice_bounds-room-end
 array_borrow_prefix_room c = room_24 c
 
-slice_aggregate_outer_third : tie.Need-slice-aggregate-outer-third
+slice_aggregate_outer_third : tie.Need-slice_bounds-outer_third-end
 slice_aggregate_outer_third c = front_long (t c.before) _ (room_24 c.before)
 
-outer_third_requires : tie.Need-outer-third-requires
+outer_third_requires : tie.Need-outer_third-requires
 outer_third_requires c κs =
     let x = c.before in
     let q = x.requires in
     (q.0.all, (record { small = λ i l. le_trans (q.0.small.small i l) (room-limit x.args.n q.0.short) }, (q.1.0, length-take-le (t x) _ (room_24 x))))
 
-array_share_prefix_room : tie.Need-array-share-prefix-room
+array_share_prefix_room : tie.Need-slice_bounds-room-end-2
 array_share_prefix_room c = let p = c.before in front_room (t (s p)) (filled p) _ (long p)
 
-slice_aggregate_hand : tie.Need-slice-aggregate-hand
+slice_aggregate_hand : tie.Need-slice_bounds-hand-end
 slice_aggregate_hand c = let p = c.before.before in front_long (t (s p)) _ (front_room (t (s p)) (filled p) _ (long p))
 
 hand_requires : tie.Need-hand-requires
@@ -59,14 +59,14 @@ hand_requires c κs =
     let p = c.before.before.before in
     rw (front_is (t (s p)) (filled p) _ (long p)) ((s p).requires.1.1 ∙ sym (long p))
 
-same_length : tie.Need-same-length
+same_length : tie.Need-shape_of-w
 same_length c = search rules
 
 returns : tie.Need-returns
 returns c =
     let p = c.before.before.before.before.before in
     let x = s p in
-    third_of x.args.n x.args.y.now x.pre.0 x.args.which _ (rw (front_is (t x) (filled p) _ (long p)) at c.before.hand.ensures ∙ is p)
+    third_of x.args.n x.args.y.now x.requires.0 x.args.which _ (rw (front_is (t x) (filled p) _ (long p)) at c.before.hand.ensures ∙ is p)
 
 pub outer_spec : {M : Type 1} → statement M
 outer_spec =

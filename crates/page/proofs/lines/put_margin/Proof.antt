@@ -22,29 +22,29 @@ module _ (b : ℕ) (few : b ≤ 4095) where
   unfolding printed
   is = let e : to_z w64 b ≡ pos b = to_z_pos w64 (omega arith) in rw e
 
-cast_put_aligned : tie.Need-overflow-cast-put-aligned
+cast_put_aligned : tie.Need-overflow_cast-b
 cast_put_aligned c = search rules
 
-put_aligned_requires : tie.Need-put-aligned-requires
+put_aligned_requires : tie.Need-put_aligned-requires
 put_aligned_requires c κs =
     let s = c.before.before.before in
     omega (arith, ap length (is s.args.b s.requires.0), block-most s.args.b s.requires.0, s.requires.1)
 
-put_blanks_requires : tie.Need-put-blanks-requires
+put_blanks_requires : tie.Need-put_blanks-requires
 put_blanks_requires c κs = search rules
 
-same_length : tie.Need-same-length
+same_length : tie.Need-shape_of-out-then-j-eq0
 same_length c = search rules
 
-returns : tie.Need-returns
+returns : tie.Need-returns-then-j-eq0
 returns c =
     let s = c.before.before.before.before.before.before in
-    c.before.before.put-aligned.ensures
+    c.before.before.put_aligned.ensures
     ∙ ap (λ (w : ℕ). aligned w (printed (to_z w64 s.args.b))) s.requires.1
     ∙ ap (aligned 8) (is s.args.b s.requires.0)
-    ∙ sym (margin-first s.args.b s.args.j c.before.before.before.before.if1.true)
+    ∙ sym (margin-first s.args.b s.args.j c.before.before.before.before.if-j-eq0.true)
 
-same_length_2 : tie.Need-same-length-2
+same_length_2 : tie.Need-shape_of-out-else-j-eq0
 same_length_2 c = search rules
 
 -- no text in eight columns: eight blanks
@@ -52,10 +52,10 @@ blanks : replicate 8 blank ≡ aligned 8 []
 unfolding aligned
 blanks = sym (append-nil (replicate 8 blank))
 
-returns_2 : tie.Need-returns-2
+returns_2 : tie.Need-returns-else-j-eq0
 returns_2 c =
     let s = c.before.before.before.before.before.before in
-    c.before.before.put-blanks.ensures ∙ ap (λ (w : ℕ). replicate w blank) s.requires.1 ∙ blanks ∙ sym (margin-other s.args.b s.args.j c.before.before.before.before.if1.false)
+    c.before.before.put_blanks.ensures ∙ ap (λ (w : ℕ). replicate w blank) s.requires.1 ∙ blanks ∙ sym (margin-other s.args.b s.args.j c.before.before.before.before.if-j-eq0.false)
 
 pub put_margin_spec : {M : Type 1} → statement M
 put_margin_spec =

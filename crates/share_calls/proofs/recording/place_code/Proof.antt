@@ -21,72 +21,72 @@ answer : (s : tie.Start) {k : ℕ} → let a = s.args in First (place_causes a.n
 unfolding place_code
 answer s f = let a = s.args in sym (first_is (place_causes a.n a.hops a.original.now a.changed.now a.hop a.place) f)
 
-is_tabled_requires : tie.Need-is-tabled-requires
+is_tabled_requires : tie.Need-is_tabled-requires
 is_tabled_requires c κs = search rules
 
 -- ---- what the tests say
-good : (c : tie.Else1) → tabled c.before.before.args.n ≡ true
-good c = sym c.before.is-tabled.ensures ∙ not-false c.before.is-tabled.result c.if1.false
+good : (c : tie.Else-not-is_tabled) → tabled c.before.before.args.n ≡ true
+good c = sym c.before.is_tabled.ensures ∙ not-false c.before.is_tabled.result c.if-not-is_tabled.false-raw
 
-few : (c : tie.Else2) → counted c.before.before.before.before.args.hops ≡ true
-few c = sym c.before.is-counted.ensures ∙ not-false c.before.is-counted.result c.if2.false
+few : (c : tie.Else-not-is_counted) → counted c.before.before.before.before.args.hops ≡ true
+few c = sym c.before.is_counted.ensures ∙ not-false c.before.is_counted.result c.if-not-is_counted.false-raw
 
-most : (c : tie.Else2) → c.before.before.before.before.args.hops ≤ 4095
+most : (c : tie.Else-not-is_counted) → c.before.before.before.before.args.hops ≤ 4095
 most c = counted-most c.before.before.before.before.args.hops (few c)
 
 -- ---- the answers
-returns : tie.Need-returns
+returns : tie.Need-returns-then-not-is_tabled
 unfolding place_causes
-returns c = answer c.before.before (stop (sym c.before.is-tabled.ensures ∙ not-true c.before.is-tabled.result c.if1.true))
+returns c = answer c.before.before (stop (sym c.before.is_tabled.ensures ∙ not-true c.before.is_tabled.result c.if-not-is_tabled.true-raw))
 
-is_counted_requires : tie.Need-is-counted-requires
+is_counted_requires : tie.Need-is_counted-requires
 is_counted_requires c κs = search rules
 
-returns_2 : tie.Need-returns-2
+returns_2 : tie.Need-returns-then-not-is_counted
 unfolding place_causes
-returns_2 c = answer c.before.before.before.before (pass (good c.before.before) (stop (sym c.before.is-counted.ensures ∙ not-true c.before.is-counted.result c.if2.true)))
+returns_2 c = answer c.before.before.before.before (pass (good c.before.before) (stop (sym c.before.is_counted.ensures ∙ not-true c.before.is_counted.result c.if-not-is_counted.true-raw)))
 
-add_count : tie.Need-overflow-add-count
+add_count : tie.Need-overflow_add-count
 add_count c = omega (arith, most c)
 
-mul_count : tie.Need-overflow-mul-count
+mul_count : tie.Need-overflow_mul-count
 mul_count c =
     let a = c.before.before.before.before.args in
     let t : T (tabled a.n) = rw (good c.before.before) tt in
     omega (arith, places_few a.n t (a.hops + 1) (omega (arith, most c)))
 
-returns_3 : tie.Need-returns-3
+returns_3 : tie.Need-returns-then-original-count
 unfolding place_causes
-returns_3 c = let e = c.before in answer c.before.before.before.before.before (pass (good e.before.before) (pass (few e) (differs c.if3.true)))
+returns_3 c = let e = c.before in answer c.before.before.before.before.before (pass (good e.before.before) (pass (few e) (differs c.if-original-count.true)))
 
-returns_4 : tie.Need-returns-4
+returns_4 : tie.Need-returns-then-changed-count
 unfolding place_causes
-returns_4 c = let e = c.before.before in answer c.before.before.before.before.before.before (pass (good e.before.before) (pass (few e) (same c.before.if3.false (differs c.if4.true))))
+returns_4 c = let e = c.before.before in answer c.before.before.before.before.before.before (pass (good e.before.before) (pass (few e) (same c.before.if-original-count.false (differs c.if-changed-count.true))))
 
-returns_5 : tie.Need-returns-5
+returns_5 : tie.Need-returns-then-hop-hops
 unfolding place_causes
 returns_5 c =
     let e = c.before.before.before in
     let a = c.before.before.before.before.before.before.before.args in
-    answer c.before.before.before.before.before.before.before (pass (good e.before.before) (pass (few e) (same c.before.before.if3.false (same c.before.if4.false (stop (le-ltb a.hop a.hops (omega (arith, c.if5.true))))))))
+    answer c.before.before.before.before.before.before.before (pass (good e.before.before) (pass (few e) (same c.before.before.if-original-count.false (same c.before.if-changed-count.false (stop (le-ltb a.hop a.hops (omega (arith, c.if-hop-hops.true))))))))
 
-returns_6 : tie.Need-returns-6
+returns_6 : tie.Need-returns-then-place-m
 unfolding place_causes
 returns_6 c =
     let e = c.before.before.before.before in
     let a = c.before.before.before.before.before.before.before.before.args in
     answer c.before.before.before.before.before.before.before.before
-    (pass (good e.before.before) (pass (few e) (same c.before.before.before.if3.false (same c.before.before.if4.false
-    (pass (lt-ltb a.hop a.hops (omega (arith, c.before.if5.false))) (stop (le-ltb a.place (a.n / 2) (omega (arith, c.if6.true)))))))))
+    (pass (good e.before.before) (pass (few e) (same c.before.before.before.if-original-count.false (same c.before.before.if-changed-count.false
+    (pass (lt-ltb a.hop a.hops (omega (arith, c.before.if-hop-hops.false))) (stop (le-ltb a.place (a.n / 2) (omega (arith, c.if-place-m.true)))))))))
 
-returns_7 : tie.Need-returns-7
+returns_7 : tie.Need-returns
 unfolding place_causes
 returns_7 c =
     let e = c.before.before.before.before in
     let a = c.before.before.before.before.before.before.before.before.args in
     answer c.before.before.before.before.before.before.before.before
-    (pass (good e.before.before) (pass (few e) (same c.before.before.before.if3.false (same c.before.before.if4.false
-    (pass (lt-ltb a.hop a.hops (omega (arith, c.before.if5.false))) (pass (lt-ltb a.place (a.n / 2) (omega (arith, c.if6.false))) none))))))
+    (pass (good e.before.before) (pass (few e) (same c.before.before.before.if-original-count.false (same c.before.before.if-changed-count.false
+    (pass (lt-ltb a.hop a.hops (omega (arith, c.before.if-hop-hops.false))) (pass (lt-ltb a.place (a.n / 2) (omega (arith, c.if-place-m.false))) none))))))
 
 pub place_code_spec : {M : Type 1} → statement M
 place_code_spec =

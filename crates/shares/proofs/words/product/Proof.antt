@@ -4,13 +4,13 @@ use native.Mathlib.Omega.{arith}
 use Rattle.shares.proofs.words.product.Statement.{statement}
 use Rattle.shares.proofs.words.product.Tie as tie
 
-mul_under : tie.Need-overflow-mul-under
+mul_under : tie.Need-overflow_mul-under
 mul_under c = omega (arith, under_le c.args.a c.args.b c.requires.1)
 
-mul_over : tie.Need-overflow-mul-over
+mul_over : tie.Need-overflow_mul-over
 mul_over c = omega (arith, over_le c.args.a c.args.b c.requires.0 c.requires.1)
 
-add_t6 : tie.Need-overflow-add-t6
+add_t6 : tie.Need-overflow_add-result
 add_t6 c = omega (arith, under_le c.args.a c.args.b c.requires.1, over_le c.args.a c.args.b c.requires.0 c.requires.1)
 
 returns : tie.Need-returns

@@ -13,125 +13,125 @@ use Rattle.split.specs.ShortStepLaws.{interleaved, interleaved-first, interleave
 use Rattle.split.proofs.block.coefficients.Statement.{statement}
 use Rattle.split.proofs.block.coefficients.Tie as tie
 
-abbrev invariant-loop : tie.invariant-loop
+abbrev invariant-loop : tie.invariant-loop-k
 invariant-loop a plus minus out₀ k₀ k_end out k = (k ≤ length a) × Filled (interleaved a plus minus) (3 * k) out out₀
 
-abbrev decreases-loop : tie.decreases-loop
+abbrev decreases-loop : tie.decreases-loop-k
 decreases-loop a plus minus out₀ k₀ k_end out k = length a - k
 
-loop-holds : tie.Need-loop-init invariant-loop decreases-loop
+loop-holds : tie.Need-loop-k-init invariant-loop decreases-loop
 loop-holds c = let a = c.args in (omega arith, filled_none (interleaved a.a.now a.plus.now a.minus.now) a.out.now)
 
 -- the buffer has room for three more
-room : (c : tie.In-loop invariant-loop decreases-loop) → 3 * c.before.loop.k + 2 < length c.before.loop.out
-room c = omega (arith, c.before.loop.invariant.1.room, c.before.before.requires.1.1.0)
+room : (c : tie.In-loop-k invariant-loop decreases-loop) → 3 * c.before.loop-k.k + 2 < length c.before.loop-k.out
+room c = omega (arith, c.before.loop-k.invariant.1.room, c.before.before.requires.1.1.0)
 
-mul_rounded : tie.Need-overflow-mul-rounded invariant-loop decreases-loop
+mul_rounded : tie.Need-offset_bounds-plus-k invariant-loop decreases-loop
 mul_rounded c = omega arith
 
-shared_slice_copy_out_rounded : tie.Need-shared-slice-copy-out-rounded invariant-loop decreases-loop
+shared_slice_copy_out_rounded : tie.Need-bounds-plus-k invariant-loop decreases-loop
 shared_slice_copy_out_rounded c = omega (arith, c.before.before.requires.0)
 
 rounded_requires : tie.Need-rounded-requires invariant-loop decreases-loop
 rounded_requires c κs =
     let l = c.before.before in
     let s = l.before in
-    (omega arith, (omega arith, rw (to_z-of_z {w = w64} (record { sfits = c.rounded-arg.given })) (s.requires.1.1.1.1.0.small l.loop.k (omega (arith, s.requires.0)))))
+    (omega arith, (omega arith, rw (to_z-of_z {w = w64} (record { sfits = c.rounded-arg-1.given })) (s.requires.1.1.1.1.0.small l.loop-k.k (omega (arith, s.requires.0)))))
 
-mul_out : tie.Need-overflow-mul-out invariant-loop decreases-loop
+mul_out : tie.Need-overflow_mul-out invariant-loop decreases-loop
 mul_out c = omega (arith, c.before.before.before.before.requires.1.1.0)
 
-mul_out_2 : tie.Need-overflow-mul-out-2 invariant-loop decreases-loop
+mul_out_2 : tie.Need-offset_bounds-out-k invariant-loop decreases-loop
 mul_out_2 c = omega (arith, c.before.before.before.before.requires.1.1.0)
 
-slice_set_from_out : tie.Need-slice-set-from-out invariant-loop decreases-loop
+slice_set_from_out : tie.Need-bounds-out-k invariant-loop decreases-loop
 slice_set_from_out c = omega (arith, room c.before.before)
 
-mul_rounded_2 : tie.Need-overflow-mul-rounded-2 invariant-loop decreases-loop
+mul_rounded_2 : tie.Need-offset_bounds-a-k invariant-loop decreases-loop
 mul_rounded_2 c = omega arith
 
-shared_slice_copy_out_rounded_2 : tie.Need-shared-slice-copy-out-rounded-2 invariant-loop decreases-loop
+shared_slice_copy_out_rounded_2 : tie.Need-bounds-a-k invariant-loop decreases-loop
 shared_slice_copy_out_rounded_2 c = omega arith
 
-rounded_requires_2 : tie.Need-rounded-requires-2 invariant-loop decreases-loop
+rounded_requires_2 : tie.Need-rounded-requires-in-loop-k invariant-loop decreases-loop
 rounded_requires_2 c κs =
     let l = c.before.before.before.before in
     let s = l.before in
-    (omega arith, (omega arith, rw (to_z-of_z {w = w64} (record { sfits = c.rounded-arg2.given })) (s.requires.1.1.1.0.small l.loop.k (omega arith))))
+    (omega arith, (omega arith, rw (to_z-of_z {w = w64} (record { sfits = c.rounded-arg-in-loop-k-1.given })) (s.requires.1.1.1.0.small l.loop-k.k (omega arith))))
 
-mul_out_3 : tie.Need-overflow-mul-out-3 invariant-loop decreases-loop
+mul_out_3 : tie.Need-overflow_mul-out-in-loop-k invariant-loop decreases-loop
 mul_out_3 c = omega (arith, c.before.before.before.before.before.before.requires.1.1.0)
 
-add_out : tie.Need-overflow-add-out invariant-loop decreases-loop
+add_out : tie.Need-overflow_add-out invariant-loop decreases-loop
 add_out c = omega (arith, c.before.before.before.before.before.before.requires.1.1.0)
 
-mul_out_4 : tie.Need-overflow-mul-out-4 invariant-loop decreases-loop
+mul_out_4 : tie.Need-offset_bounds-out-k-in-loop-k invariant-loop decreases-loop
 mul_out_4 c = omega (arith, c.before.before.before.before.before.before.requires.1.1.0)
 
-slice_set_from_out_2 : tie.Need-slice-set-from-out-2 invariant-loop decreases-loop
+slice_set_from_out_2 : tie.Need-bounds-out-k-in-loop-k invariant-loop decreases-loop
 slice_set_from_out_2 c = rw length-set (omega (arith, room c.before.before.before.before))
 
-mul_rounded_3 : tie.Need-overflow-mul-rounded-3 invariant-loop decreases-loop
+mul_rounded_3 : tie.Need-offset_bounds-minus-k invariant-loop decreases-loop
 mul_rounded_3 c = omega arith
 
-shared_slice_copy_out_rounded_3 : tie.Need-shared-slice-copy-out-rounded-3 invariant-loop decreases-loop
+shared_slice_copy_out_rounded_3 : tie.Need-bounds-minus-k invariant-loop decreases-loop
 shared_slice_copy_out_rounded_3 c = omega (arith, c.before.before.before.before.before.before.requires.1.0)
 
-rounded_requires_3 : tie.Need-rounded-requires-3 invariant-loop decreases-loop
+rounded_requires_3 : tie.Need-rounded-requires-in-loop-k-2 invariant-loop decreases-loop
 rounded_requires_3 c κs =
     let l = c.before.before.before.before.before.before in
     let s = l.before in
-    (omega arith, (omega arith, rw (to_z-of_z {w = w64} (record { sfits = c.rounded-arg3.given })) (s.requires.1.1.1.1.1.small l.loop.k (omega (arith, s.requires.1.0)))))
+    (omega arith, (omega arith, rw (to_z-of_z {w = w64} (record { sfits = c.rounded-arg-in-loop-k-2-1.given })) (s.requires.1.1.1.1.1.small l.loop-k.k (omega (arith, s.requires.1.0)))))
 
-mul_t9 : tie.Need-overflow-mul-t9 invariant-loop decreases-loop
+mul_t9 : tie.Need-overflow_mul-k invariant-loop decreases-loop
 mul_t9 c = omega (arith, c.before.before.before.before.before.before.before.before.requires.1.1.0)
 
-add_t12 : tie.Need-overflow-add-t12 invariant-loop decreases-loop
+add_t12 : tie.Need-overflow_add-k invariant-loop decreases-loop
 add_t12 c = omega (arith, c.before.before.before.before.before.before.before.before.requires.1.1.0)
 
-mul_t13 : tie.Need-overflow-mul-t13 invariant-loop decreases-loop
+mul_t13 : tie.Need-offset_bounds-out-k-in-loop-k-2 invariant-loop decreases-loop
 mul_t13 c = omega (arith, c.before.before.before.before.before.before.before.before.requires.1.1.0)
 
-slice_set_from_out_3 : tie.Need-slice-set-from-out-3 invariant-loop decreases-loop
+slice_set_from_out_3 : tie.Need-bounds-out-k-in-loop-k-2 invariant-loop decreases-loop
 slice_set_from_out_3 c = simp length-set (omega (arith, room c.before.before.before.before.before.before))
 
-add_k : tie.Need-overflow-add-k invariant-loop decreases-loop
+add_k : tie.Need-overflow_step-k invariant-loop decreases-loop
 add_k c = omega arith
 
-loop-less : tie.Need-loop-smaller invariant-loop decreases-loop
+loop-less : tie.Need-loop-k-smaller invariant-loop decreases-loop
 loop-less c = omega arith
 
-loop-again : tie.Need-loop-preserved invariant-loop decreases-loop
+loop-again : tie.Need-loop-k-preserved invariant-loop decreases-loop
 loop-again c =
     let second = c.before.before in
     let first = second.before.before in
     let i = first.before.before in
     let l = i.before in
     let a = l.before.args in
-    let k = l.loop.k in (
+    let k = l.loop-k.k in (
       omega arith,
-      filled-three (interleaved a.a.now a.plus.now a.minus.now) k l.loop.out a.out.now _ _ _ l.loop.invariant.1 (room i)
-          (to_z-of_z {w = w32} {z = first.rounded.result} (record { sfits = first.rounded.type-inv })
+      filled-three (interleaved a.a.now a.plus.now a.minus.now) k l.loop-k.out a.out.now _ _ _ l.loop-k.invariant.1 (room i)
+          (to_z-of_z {w = w32} {z = first.rounded.result} (record { sfits = first.rounded.type_inv })
           ∙ first.rounded.ensures
-          ∙ ap (λ (z : ℤ). rnd z (2 ^ 29)) (to_z-of_z {w = w64} {z = at a.plus.now k} (record { sfits = first.before.rounded-arg.given }))
+          ∙ ap (λ (z : ℤ). rnd z (2 ^ 29)) (to_z-of_z {w = w64} {z = at a.plus.now k} (record { sfits = first.before.rounded-arg-1.given }))
           ∙ sym (interleaved-first a.a.now a.plus.now a.minus.now k))
-          (to_z-of_z {w = w32} {z = second.rounded2.result} (record { sfits = second.rounded2.type-inv })
-          ∙ second.rounded2.ensures
-          ∙ ap (λ (z : ℤ). rnd z (2 ^ 28)) (to_z-of_z {w = w64} {z = at a.a.now k} (record { sfits = second.before.rounded-arg2.given }))
+          (to_z-of_z {w = w32} {z = second.rounded-in-loop-k.result} (record { sfits = second.rounded-in-loop-k.type_inv })
+          ∙ second.rounded-in-loop-k.ensures
+          ∙ ap (λ (z : ℤ). rnd z (2 ^ 28)) (to_z-of_z {w = w64} {z = at a.a.now k} (record { sfits = second.before.rounded-arg-in-loop-k-1.given }))
           ∙ sym (interleaved-middle a.a.now a.plus.now a.minus.now k))
-          (to_z-of_z {w = w32} {z = c.rounded3.result} (record { sfits = c.rounded3.type-inv })
-          ∙ c.rounded3.ensures
-          ∙ ap (λ (z : ℤ). rnd z (2 ^ 29)) (to_z-of_z {w = w64} {z = at a.minus.now k} (record { sfits = c.before.rounded-arg3.given }))
+          (to_z-of_z {w = w32} {z = c.rounded-in-loop-k-2.result} (record { sfits = c.rounded-in-loop-k-2.type_inv })
+          ∙ c.rounded-in-loop-k-2.ensures
+          ∙ ap (λ (z : ℤ). rnd z (2 ^ 29)) (to_z-of_z {w = w64} {z = at a.minus.now k} (record { sfits = c.before.rounded-arg-in-loop-k-2-1.given }))
           ∙ sym (interleaved-last a.a.now a.plus.now a.minus.now k)),
     )
 
-same_length : tie.Need-same-length invariant-loop decreases-loop
-same_length c = c.before.loop.invariant.1.room
+same_length : tie.Need-shape_of-out invariant-loop decreases-loop
+same_length c = c.before.loop-k.invariant.1.room
 
 returns : tie.Need-returns invariant-loop decreases-loop
 returns c =
     let a = c.before.before.args in
-    let l = c.before.loop in
+    let l = c.before.loop-k in
     let e : l.k ≡ length a.a.now = omega arith in
     filled-all (interleaved a.a.now a.plus.now a.minus.now) (3 * length a.a.now) l.out a.out.now (rw e at l.invariant.1) c.before.before.requires.1.1.0
 

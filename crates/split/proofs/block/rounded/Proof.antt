@@ -15,7 +15,7 @@ use borrow.Author.Rules.{rules}
 use Rattle.split.proofs.block.rounded.Statement.{statement}
 use Rattle.split.proofs.block.rounded.Tie as tie
 
-rnd_shift_requires : tie.Need-rnd-shift-requires
+rnd_shift_requires : tie.Need-rnd_shift-requires
 rnd_shift_requires c κs =
     let h : nat_abs (to_z w64 (of_z w64 c.args.s)) ≤ 2 ^ 62 = rw (to_z-of_z c.ranges.s) (omega (arith, c.requires.1.1)) in
     search rules
@@ -28,20 +28,20 @@ small s k p q h = go (dec_le k 28)
     go (yes r) = let e : k ≡ 28 = omega arith in rw e (rnd_le s {b = 2 ^ 28} {n = 2 ^ 30} (lit< tt) h)
     go (no r) = let e : k ≡ 29 = omega arith in rw e (rnd_le s {b = 2 ^ 29} {n = 2 ^ 30} (lit< tt) (omega arith))
 
-module _ (c : tie.After-rnd-shift) where
-  is : c.rnd-shift.result ≡ rnd c.before.args.s (2 ^ c.before.args.k)
-  is = c.rnd-shift.ensures ∙ ap (λ (z : ℤ). rnd z (2 ^ c.before.args.k)) (to_z-of_z c.before.ranges.s)
+module _ (c : tie.After-rnd_shift) where
+  is : c.rnd_shift.result ≡ rnd c.before.args.s (2 ^ c.before.args.k)
+  is = c.rnd_shift.ensures ∙ ap (λ (z : ℤ). rnd z (2 ^ c.before.args.k)) (to_z-of_z c.before.ranges.s)
 
   fits : SFits w32 (rnd c.before.args.s (2 ^ c.before.args.k))
   fits =
       let q = c.before.requires in
       sfits_abs (rnd c.before.args.s (2 ^ c.before.args.k)) (omega (arith, small c.before.args.s c.before.args.k q.0 q.1.0 q.1.1))
 
-cast_result : tie.Need-overflow-cast-result
-cast_result c = rw (to_z-of_z {w = w64} {z = c.rnd-shift.result} (record { sfits = c.rnd-shift.type-inv }), is c) (fits c)
+cast_result : tie.Need-overflow_cast-result
+cast_result c = rw (to_z-of_z {w = w64} {z = c.rnd_shift.result} (record { sfits = c.rnd_shift.type_inv }), is c) (fits c)
 
 returns : tie.Need-returns
-returns c = rw (to_z-of_z {w = w64} {z = c.rnd-shift.result} (record { sfits = c.rnd-shift.type-inv }), is c) (to_z-of_z (fits c))
+returns c = rw (to_z-of_z {w = w64} {z = c.rnd_shift.result} (record { sfits = c.rnd_shift.type_inv }), is c) (to_z-of_z (fits c))
 
 pub rounded_spec : {M : Type 1} → statement M
 rounded_spec = tie.close (tie.spec rnd_shift_requires cast_result returns)

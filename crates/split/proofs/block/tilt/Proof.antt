@@ -22,7 +22,7 @@ module _ (c : tie.Start) where
   x-is : to_z w32 (of_z w32 (to_z w16 (of_z w16 x))) ≡ x
   x-is = ap (λ (z : ℤ). to_z w32 (of_z w32 z)) (to_z-of_z c.ranges.x) ∙ to_z-of_z fits
 
-cast_result : tie.Need-overflow-cast-result
+cast_result : tie.Need-overflow_cast-result
 cast_result c = rw (to_z-of_z c.ranges.x) (fits c)
 
 returns : tie.Need-returns

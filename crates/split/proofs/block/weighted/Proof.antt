@@ -87,22 +87,22 @@ module _ (c : tie.Start) where
   is : floor (hi +ℤ floor lo 8192 +ℤ pos 16) 32 ≡ rnd (c.args.w *ℤ x) (2 ^ 18)
   is = windowed-parts x u ∙ rw (pos-nat_abs c.args.w (yes_non_neg c.requires.0))
 
-cast_a : tie.Need-overflow-cast-a
+cast_a : tie.Need-overflow_cast-a
 cast_a c = rw (to_z-of_z c.ranges.x) (x_fits c)
 
-cast_u : tie.Need-overflow-cast-u
+cast_u : tie.Need-overflow_cast-u
 cast_u c = rw (u-is c) (yes_non_neg c.requires.0, record { fits = omega (arith, c.requires.1) })
 
-cast_hi : tie.Need-overflow-cast-hi
+cast_hi : tie.Need-overflow_cast-hi
 cast_hi c = search rules
 
-cast_lo : tie.Need-overflow-cast-lo
+cast_lo : tie.Need-overflow_cast-lo
 cast_lo c = search rules
 
-mul_result : tie.Need-overflow-mul-result
+mul_result : tie.Need-overflow_mul-result
 mul_result c = rw (x-is c, u-is c, hi-part c) (hi-fits c)
 
-mul_result_2 : tie.Need-overflow-mul-result-2
+mul_result_2 : tie.Need-overflow_mul-result-2
 mul_result_2 c = rw (x-is c, u-is c, lo-part c) (low_fits c)
 
 tilt_requires : tie.Need-tilt-requires
@@ -110,17 +110,17 @@ tilt_requires c κs = search rules
 
 -- what `tilt` gave, as the machine has it
 tilt_is : (c : tie.After-tilt) → to_z w32 (of_z w32 c.tilt.result) ≡ under (x c.before)
-tilt_is c = to_z-of_z {w = w32} {z = c.tilt.result} (record { sfits = c.tilt.type-inv }) ∙ c.tilt.ensures ∙ ap under (to_z-of_z c.before.ranges.x)
+tilt_is c = to_z-of_z {w = w32} {z = c.tilt.result} (record { sfits = c.tilt.type_inv }) ∙ c.tilt.ensures ∙ ap under (to_z-of_z c.before.ranges.x)
 
-add_result : tie.Need-overflow-add-result
+add_result : tie.Need-overflow_add-result
 add_result c = let s = c.before in rw (tilt_is c, x-is s, u-is s, lo-part s, to_z-of_z (low_fits s)) (lo-fits s)
 
-add_result_2 : tie.Need-overflow-add-result-2
+add_result_2 : tie.Need-overflow_add-result-2
 add_result_2 c =
     let s = c.before in
     rw (tilt_is c, x-is s, u-is s, hi-part s, lo-part s, to_z-of_z (hi-fits s), to_z-of_z (low_fits s), to_z-of_z (lo-fits s), floor_shr (lo s) 8192, to_z-of_z (floor-fits s)) (sum_fits s)
 
-add_result_3 : tie.Need-overflow-add-result-3
+add_result_3 : tie.Need-overflow_add-result-3
 add_result_3 c =
     let s = c.before in
     rw (

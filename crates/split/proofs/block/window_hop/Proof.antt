@@ -18,50 +18,50 @@ use Rattle.split.proofs.block.window_hop.Tie as tie
 abbrev hop : List ℤ → List ℤ → ℕ → ℤ
 hop half x n = windowed half n x n
 
-abbrev invariant-loop : tie.invariant-loop
+abbrev invariant-loop : tie.invariant-loop-n
 invariant-loop size half x out₀ n₀ n_end out n = (n ≤ length half) × Filled (hop half x) n out out₀ × ((i : ℕ) → i < n → nat_abs (hop half x i) ≤ 2 ^ 23)
 
-abbrev decreases-loop : tie.decreases-loop
+abbrev decreases-loop : tie.decreases-loop-n
 decreases-loop size half x out₀ n₀ n_end out n = length half - n
 
-loop-holds : tie.Need-loop-init invariant-loop decreases-loop
+loop-holds : tie.Need-loop-n-init invariant-loop decreases-loop
 loop-holds c = (omega arith, filled_none (hop c.args.half.now c.args.x.now) c.args.out.now, λ i p. absurd (omega arith))
 
 windowed_requires : tie.Need-windowed-requires invariant-loop decreases-loop
 windowed_requires c κs = let q = c.before.before.requires in (q.0, (omega arith, omega (arith, q.1.0)))
 
-mul_t9 : tie.Need-overflow-mul-t9 invariant-loop decreases-loop
+mul_t9 : tie.Need-offset_bounds-out-n invariant-loop decreases-loop
 mul_t9 c = omega arith
 
-slice_set_from_out : tie.Need-slice-set-from-out invariant-loop decreases-loop
-slice_set_from_out c = let l = c.before.before in omega (arith, l.loop.invariant.1.room, l.before.requires.1.1)
+slice_set_from_out : tie.Need-bounds-out-n invariant-loop decreases-loop
+slice_set_from_out c = let l = c.before.before in omega (arith, l.loop-n.invariant.1.room, l.before.requires.1.1)
 
-add_n : tie.Need-overflow-add-n invariant-loop decreases-loop
+add_n : tie.Need-overflow_step-n invariant-loop decreases-loop
 add_n c = omega arith
 
-loop-less : tie.Need-loop-smaller invariant-loop decreases-loop
+loop-less : tie.Need-loop-n-smaller invariant-loop decreases-loop
 loop-less c = omega arith
 
-loop-again : tie.Need-loop-preserved invariant-loop decreases-loop
+loop-again : tie.Need-loop-n-preserved invariant-loop decreases-loop
 loop-again c =
     let l = c.before.before in
     let a = l.before.args in
     let f = hop a.half.now a.x.now in (
       omega arith,
-      filled_more f l.loop.n l.loop.out a.out.now _ l.loop.invariant.1
-          (omega (arith, l.loop.invariant.1.room, l.before.requires.1.1))
-          (to_z-of_z {w = w32} {z = c.windowed.result} (record { sfits = c.windowed.type-inv }) ∙ c.windowed.ensures.0),
-      below_more (λ i. nat_abs (f i) ≤ 2 ^ 23) l.loop.n l.loop.invariant.2 (rw c.windowed.ensures.0 at c.windowed.ensures.1),
+      filled_more f l.loop-n.n l.loop-n.out a.out.now _ l.loop-n.invariant.1
+          (omega (arith, l.loop-n.invariant.1.room, l.before.requires.1.1))
+          (to_z-of_z {w = w32} {z = c.windowed.result} (record { sfits = c.windowed.type_inv }) ∙ c.windowed.ensures.0),
+      below_more (λ i. nat_abs (f i) ≤ 2 ^ 23) l.loop-n.n l.loop-n.invariant.2 (rw c.windowed.ensures.0 at c.windowed.ensures.1),
     )
 
-same_length : tie.Need-same-length invariant-loop decreases-loop
-same_length c = c.before.loop.invariant.1.room
+same_length : tie.Need-shape_of-out invariant-loop decreases-loop
+same_length c = c.before.loop-n.invariant.1.room
 
 returns : tie.Need-returns invariant-loop decreases-loop
 returns c =
     let a = c.before.before.args in
     let q = c.before.before.requires in
-    let l = c.before.loop in
+    let l = c.before.loop-n in
     let m = length a.half.now in
     let f = hop a.half.now a.x.now in
     let e : l.n ≡ m = omega arith in

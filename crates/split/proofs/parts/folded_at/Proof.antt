@@ -15,7 +15,7 @@ use borrow.Author.Rules.{rules}
 use Rattle.split.proofs.parts.folded_at.Statement.{statement}
 use Rattle.split.proofs.parts.folded_at.Tie as tie
 
-mul_result : tie.Need-overflow-mul-result
+mul_result : tie.Need-overflow_mul-result
 mul_result c = search rules
 
 module _ (c : tie.Start) where
@@ -38,45 +38,45 @@ module _ (c : tie.Start) where
   abbrev early : ℤ
   early = at w (j - h)
 
-sub_result : tie.Need-overflow-sub-result
+sub_result : tie.Need-overflow_sub-result
 sub_result c = search rules
 
-sub_result_2 : tie.Need-overflow-sub-result-2
+sub_result_2 : tie.Need-overflow_sub-result-then-j-h
 sub_result_2 c = search rules
 
-mul_result_2 : tie.Need-overflow-mul-result-2
+mul_result_2 : tie.Need-offset_bounds-w-h
 mul_result_2 c = search rules
 
-shared_slice_copy_out_result : tie.Need-shared-slice-copy-out-result
+shared_slice_copy_out_result : tie.Need-bounds-w-h
 shared_slice_copy_out_result c = search rules
 
 -- the mirrored input with its sign changed, as the machine has it
-module _ (c : tie.After-result) where
+module _ (c : tie.After-result-1) where
   mirrored_abs : nat_abs (mirrored c.before.before) ≤ 2 ^ 28
   mirrored_abs = let s = c.before.before in s.requires.1.1.small (3 * h s - 1 - j s) (omega (arith, s.requires.0))
 
   negated : pos 0 -ℤ to_z w32 (of_z w32 (mirrored c.before.before)) ≡ neg_ℤ (mirrored c.before.before)
-  negated = rw (to_z-of_z {w = w32} {z = mirrored c.before.before} (record { sfits = c.result.given })) (+ℤ_idl (neg_ℤ (mirrored c.before.before)))
+  negated = rw (to_z-of_z {w = w32} {z = mirrored c.before.before} (record { sfits = c.result-1.given })) (+ℤ_idl (neg_ℤ (mirrored c.before.before)))
 
   negated_fits : SFits w32 (neg_ℤ (mirrored c.before.before))
   negated_fits = sfits_abs (neg_ℤ (mirrored c.before.before)) (rw (abs_neg (mirrored c.before.before)) (omega (arith, mirrored_abs)))
 
-sub_result_3 : tie.Need-overflow-sub-result-3
+sub_result_3 : tie.Need-overflow_sub-result-then-j-h-2
 sub_result_3 c = rw (negated c) (negated_fits c)
 
-mul_result_3 : tie.Need-overflow-mul-result-3
+mul_result_3 : tie.Need-overflow_mul-result-then-j-h
 mul_result_3 c = search rules
 
-add_result : tie.Need-overflow-add-result
+add_result : tie.Need-overflow_add-result
 add_result c = search rules
 
-mul_result_4 : tie.Need-overflow-mul-result-4
+mul_result_4 : tie.Need-offset_bounds-w-h-then-j-h
 mul_result_4 c = search rules
 
-shared_slice_copy_out_result_2 : tie.Need-shared-slice-copy-out-result-2
+shared_slice_copy_out_result_2 : tie.Need-bounds-w-h-then-j-h
 shared_slice_copy_out_result_2 c = search rules
 
-module _ (c : tie.After-result2) where
+module _ (c : tie.After-result-then-j-h-1) where
   low_fits : SFits w32 (neg_ℤ (mirrored c.before.before.before) -ℤ late c.before.before.before)
   low_fits =
       let s = c.before.before.before in
@@ -84,33 +84,33 @@ module _ (c : tie.After-result2) where
       sfits_abs (neg_ℤ u -ℤ late s) (omega (arith, abs_sub (neg_ℤ u) (late s), abs_neg u, mirrored_abs c.before, s.requires.1.1.small (3 * h s + j s) (omega (arith, s.requires.0))))
 
   late_is : to_z w32 (of_z w32 (late c.before.before.before)) ≡ late c.before.before.before
-  late_is = to_z-of_z {w = w32} {z = late c.before.before.before} (record { sfits = c.result2.given })
+  late_is = to_z-of_z {w = w32} {z = late c.before.before.before} (record { sfits = c.result-then-j-h-1.given })
 
-sub_result_4 : tie.Need-overflow-sub-result-4
+sub_result_4 : tie.Need-overflow_sub-result-then-j-h-3
 sub_result_4 c = rw (negated c.before, to_z-of_z (negated_fits c.before), late_is c) (low_fits c)
 
-mul_result_5 : tie.Need-overflow-mul-result-5
+mul_result_5 : tie.Need-offset_bounds-w-j
 mul_result_5 c = search rules
 
-shared_slice_copy_out_result_3 : tie.Need-shared-slice-copy-out-result-3
+shared_slice_copy_out_result_3 : tie.Need-bounds-w-j
 shared_slice_copy_out_result_3 c = search rules
 
-mul_result_6 : tie.Need-overflow-mul-result-6
+mul_result_6 : tie.Need-overflow_mul-result-else-j-h
 mul_result_6 c = search rules
 
-sub_result_5 : tie.Need-overflow-sub-result-5
+sub_result_5 : tie.Need-overflow_sub-result-else-j-h-2
 sub_result_5 c = search rules
 
-sub_result_6 : tie.Need-overflow-sub-result-6
+sub_result_6 : tie.Need-overflow_sub-result-else-j-h-3
 sub_result_6 c = search rules
 
-mul_result_7 : tie.Need-overflow-mul-result-7
+mul_result_7 : tie.Need-offset_bounds-w-h-else-j-h
 mul_result_7 c = search rules
 
-shared_slice_copy_out_result_4 : tie.Need-shared-slice-copy-out-result-4
+shared_slice_copy_out_result_4 : tie.Need-bounds-w-h-else-j-h
 shared_slice_copy_out_result_4 c = search rules
 
-module _ (c : tie.After-result4) where
+module _ (c : tie.After-result-else-j-h-2-1) where
   high_fits : SFits w32 (early c.before.before.before -ℤ mirrored c.before.before.before)
   high_fits =
       let s = c.before.before.before in
@@ -118,20 +118,20 @@ module _ (c : tie.After-result4) where
       (omega (arith, abs_sub (early s) (mirrored s), s.requires.1.1.small (j s - h s) (omega (arith, s.requires.0)), s.requires.1.1.small (3 * h s - 1 - j s) (omega (arith, s.requires.0))))
 
   early-is : to_z w32 (of_z w32 (early c.before.before.before)) ≡ early c.before.before.before
-  early-is = to_z-of_z {w = w32} {z = early c.before.before.before} (record { sfits = c.before.result3.given })
+  early-is = to_z-of_z {w = w32} {z = early c.before.before.before} (record { sfits = c.before.result-else-j-h-1.given })
 
   mirrored-is : to_z w32 (of_z w32 (mirrored c.before.before.before)) ≡ mirrored c.before.before.before
-  mirrored-is = to_z-of_z {w = w32} {z = mirrored c.before.before.before} (record { sfits = c.result4.given })
+  mirrored-is = to_z-of_z {w = w32} {z = mirrored c.before.before.before} (record { sfits = c.result-else-j-h-2-1.given })
 
-sub_result_7 : tie.Need-overflow-sub-result-7
+sub_result_7 : tie.Need-overflow_sub-result-else-j-h-4
 sub_result_7 c = rw (early-is c, mirrored-is c) (high_fits c)
 
-returns : tie.Need-returns
+returns : tie.Need-returns-then-j-h
 returns c =
     let s = c.before.before.before in
     rw (negated c.before, to_z-of_z (negated_fits c.before), late_is c, to_z-of_z (low_fits c)) (sym (folded_low (length (w s)) (at (w s)) (j s) (omega arith)))
 
-returns_2 : tie.Need-returns-2
+returns_2 : tie.Need-returns-else-j-h
 returns_2 c =
     let s = c.before.before.before in
     rw (early-is c, mirrored-is c, to_z-of_z (high_fits c)) (sym (folded-high (length (w s)) (at (w s)) (j s) (omega arith)))

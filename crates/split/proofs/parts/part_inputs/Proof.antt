@@ -30,29 +30,29 @@ module _ (c : tie.After-fold) where
   w = s.args.w.now
 
   abbrev z : List ℤ
-  z = c.fold.new.1.0
+  z = c.fold.new.z
 
   z-is : z ≡ halved w
-  z-is = third-halved s.args.which s.args.n s.args.y.now w s.pre.0 (length s.args.z.now) z s.pre.1.first c.fold.ensures
+  z-is = third-halved s.args.which s.args.n s.args.y.now w s.requires.0 (length s.args.z.now) z s.requires.1.first c.fold.ensures
 
   input : Input (s.args.n / 3) z
-  input = halved-input s.args.which s.args.n s.args.y.now w s.pre.0 z z-is
+  input = halved-input s.args.which s.args.n s.args.y.now w s.requires.0 z z-is
 
 lift_requires : tie.Need-lift-requires
-lift_requires c κs = let f = c.before.before.before in (omega (arith, (s f).requires.1.second, (input f).long), (input f).small)
+lift_requires c κs = let f = c.before.before in (omega (arith, (s f).requires.1.second, (input f).long), (input f).small)
 
-same_length : tie.Need-same-length
+same_length : tie.Need-shape_of-z
 same_length c = search rules
 
-same_length_2 : tie.Need-same-length-2
+same_length_2 : tie.Need-shape_of-l
 same_length_2 c = search rules
 
 returns : tie.Need-returns
 returns c =
-    let f = c.before.before.before.before.before in
+    let f = c.before.before.before.before in
     let a = (s f).args in
     let q = (s f).requires in
-    let e : c.before.lift.new.1.0 ≡ inputs (w f) = inputs_are (w f) (z f) _ (z-is f) c.before.lift.ensures in
+    let e : c.before.lift.new.z ≡ inputs (w f) = inputs_are (w f) (z f) _ (z-is f) c.before.lift.ensures in
     record { part = q.0.part; are = e ∙ ap inputs q.0.is; ready = rw e (inputs_ready a.which a.n a.y.now (w f) q.0) }
 
 pub part_inputs_spec : {M : Type 1} → statement M

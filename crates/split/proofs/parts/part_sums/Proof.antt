@@ -42,7 +42,7 @@ lower_requires c κs =
     let long = ap length (raised_is s) ∙ length-table (raised (z s) (lift_list (n s))) (length (z s)) in
     (ap length q.1.0 ∙ base-length (n s) ∙ half s, (long, (most s, (record { small = λ i p. l.size i p }, small))))
 
-same_length : tie.Need-same-length
+same_length : tie.Need-shape_of-t
 same_length c = search rules
 
 returns : tie.Need-returns

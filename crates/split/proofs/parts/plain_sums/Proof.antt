@@ -36,30 +36,30 @@ module _ (c : tie.After-fold) where
   w = s.args.w.now
 
   abbrev z : List ℤ
-  z = c.fold.new.1.0
+  z = c.fold.new.z
 
   z-is : z ≡ halved w
-  z-is = third-halved s.args.which s.args.n s.args.y.now w s.pre.0 (length s.args.z.now) z s.pre.1.1.first c.fold.ensures
+  z-is = third-halved s.args.which s.args.n s.args.y.now w s.requires.0 (length s.args.z.now) z s.requires.1.1.first c.fold.ensures
 
   input : Input P z
-  input = halved-input s.args.which s.args.n s.args.y.now w s.pre.0 z z-is
+  input = halved-input s.args.which s.args.n s.args.y.now w s.requires.0 z z-is
 
   are : (t : List ℤ) → t ≡ table (P / 2) (folds P z) → t ≡ table (P / 2) (S P (at w))
-  are t h = halved-sums P s.pre.0.part w (long s) t (h ∙ ap (λ (x : List ℤ). table (P / 2) (folds P x)) z-is)
+  are t h = halved-sums P s.requires.0.part w (long s) t (h ∙ ap (λ (x : List ℤ). table (P / 2) (folds P x)) z-is)
 
-plain_sums_requires : tie.Need-plain-sums-requires
-plain_sums_requires c κs = let f = c.before.before.before in (input f, ((s f).requires.0.most, ((s f).requires.1.0, omega (arith, (s f).requires.1.1.second))))
+plain_sums_requires : tie.Need-plain_sums-requires
+plain_sums_requires c κs = let f = c.before.before in (input f, ((s f).requires.0.most, ((s f).requires.1.0, omega (arith, (s f).requires.1.1.second))))
 
-same_length : tie.Need-same-length
+same_length : tie.Need-shape_of-z
 same_length c = search rules
 
-same_length_2 : tie.Need-same-length-2
+same_length_2 : tie.Need-shape_of-t
 same_length_2 c = search rules
 
 returns : tie.Need-returns
 returns c =
-    let f = c.before.before.before.before.before in
-    are f c.before.plain-sums.new.1.1.1.0 c.before.plain-sums.ensures.are ∙ ap (λ (x : List ℤ). table (P f / 2) (S (P f) (at x))) (s f).requires.0.is
+    let f = c.before.before.before.before in
+    are f c.before.plain_sums.new.t c.before.plain_sums.ensures.are ∙ ap (λ (x : List ℤ). table (P f / 2) (S (P f) (at x))) (s f).requires.0.is
 
 pub plain_sums_spec : {M : Type 1} → statement M
 plain_sums_spec = tie.close (tie.spec fold_requires plain_sums_requires same_length same_length_2 returns)

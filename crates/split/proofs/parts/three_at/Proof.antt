@@ -22,11 +22,11 @@ use Rattle.split.proofs.parts.three_at.Tie as tie
 abbrev term : ℕ → List ℤ → List ℤ → ℕ → ℕ → ℤ
 term m z rows k j = at z j *ℤ at rows (j * m + k)
 
-abbrev invariant-loop : tie.invariant-loop
+abbrev invariant-loop : tie.invariant-loop-j
 invariant-loop x y z rows k m a₀ b₀ g₀ j₀ a b g j =
     (j ≤ length x) × (to_z w64 a ≡ sum j (term (length x) x rows k)) × (to_z w64 b ≡ sum j (term (length x) y rows k)) × (to_z w64 g ≡ sum j (term (length x) z rows k))
 
-abbrev decreases-loop : tie.decreases-loop
+abbrev decreases-loop : tie.decreases-loop-j
 decreases-loop x y z rows k m a₀ b₀ g₀ j₀ a b g j = length x - j
 
 -- one part z of the three: any part of its sum is below 2^63, and its entries are not negative
@@ -78,106 +78,106 @@ module _ (c : tie.Start invariant-loop decreases-loop) where
         let t : r ≡ term m z rows k j = h ∙ rw (entry-is j p, row_is j p) in
         rw (e, to_z-of_z {w = w64} f, t) (sym (sum-next j (term m z rows k)))
 
-loop-holds : tie.Need-loop-init invariant-loop decreases-loop
+loop-holds : tie.Need-loop-j-init invariant-loop decreases-loop
 loop-holds c = (omega arith, sym (sum-zero _), sym (sum-zero _), sym (sum-zero _))
 
-mul_r : tie.Need-overflow-mul-r invariant-loop decreases-loop
-mul_r c = let s = c.before.before in omega (arith, in_rows s c.before.loop.j (omega arith), most s, s.requires.1.0)
+mul_r : tie.Need-overflow_mul-r invariant-loop decreases-loop
+mul_r c = let s = c.before.before in omega (arith, in_rows s c.before.loop-j.j (omega arith), most s, s.requires.1.0)
 
-add_r : tie.Need-overflow-add-r invariant-loop decreases-loop
-add_r c = let s = c.before.before in omega (arith, in_rows s c.before.loop.j (omega arith), most s, s.requires.1.0)
+add_r : tie.Need-overflow_add-r invariant-loop decreases-loop
+add_r c = let s = c.before.before in omega (arith, in_rows s c.before.loop-j.j (omega arith), most s, s.requires.1.0)
 
-mul_r_2 : tie.Need-overflow-mul-r-2 invariant-loop decreases-loop
-mul_r_2 c = let s = c.before.before in omega (arith, in_rows s c.before.loop.j (omega arith), most s, s.requires.1.0)
+mul_r_2 : tie.Need-offset_bounds-rows-j invariant-loop decreases-loop
+mul_r_2 c = let s = c.before.before in omega (arith, in_rows s c.before.loop-j.j (omega arith), most s, s.requires.1.0)
 
-shared_slice_copy_out_r : tie.Need-shared-slice-copy-out-r invariant-loop decreases-loop
-shared_slice_copy_out_r c = in_rows c.before.before c.before.loop.j (omega arith)
+shared_slice_copy_out_r : tie.Need-bounds-rows-j invariant-loop decreases-loop
+shared_slice_copy_out_r c = in_rows c.before.before c.before.loop-j.j (omega arith)
 
-mul_product : tie.Need-overflow-mul-product invariant-loop decreases-loop
+mul_product : tie.Need-offset_bounds-x-j invariant-loop decreases-loop
 mul_product c = omega (arith, c.before.before.before.requires.0.most)
 
-shared_slice_copy_out_product : tie.Need-shared-slice-copy-out-product invariant-loop decreases-loop
+shared_slice_copy_out_product : tie.Need-bounds-x-j invariant-loop decreases-loop
 shared_slice_copy_out_product c = omega arith
 
-product_requires : tie.Need-product-requires invariant-loop decreases-loop
+product_requires : tie.Need-product-a-requires invariant-loop decreases-loop
 product_requires c κs =
     let l = c.before.before.before in
     let s = l.before in
-    (entry_sign s s.args.x.now refl s.requires.0.first l.loop.j (omega arith), row_sign s l.loop.j (omega arith))
+    (entry_sign s s.args.x.now refl s.requires.0.first l.loop-j.j (omega arith), row_sign s l.loop-j.j (omega arith))
 
-more-a : (c : tie.After-product invariant-loop decreases-loop) → let l = c.before.before.before.before in
-    to_z w64 l.loop.a +ℤ to_z w64 (of_z w64 c.product.result) ≡ sum (l.loop.j + 1) (term (m l.before) l.before.args.x.now (rows l.before) (k l.before))
+more-a : (c : tie.After-product-a invariant-loop decreases-loop) → let l = c.before.before.before.before in
+    to_z w64 l.loop-j.a-bits +ℤ to_z w64 (of_z w64 c.product-a.result) ≡ sum (l.loop-j.j + 1) (term (m l.before) l.before.args.x.now (rows l.before) (k l.before))
 more-a c =
     let l = c.before.before.before.before in
     let s = l.before in
-    next s s.args.x.now refl s.requires.0.first l.loop.j l.loop.a c.product.result (omega arith) l.loop.invariant.1 c.product.ensures (record { sfits = c.product.type-inv })
+    next s s.args.x.now refl s.requires.0.first l.loop-j.j l.loop-j.a-bits c.product-a.result (omega arith) l.loop-j.invariant.1 c.product-a.ensures (record { sfits = c.product-a.type_inv })
 
-more_a_fits : (c : tie.After-product invariant-loop decreases-loop) → let l = c.before.before.before.before in
-    SFits w64 (sum (l.loop.j + 1) (term (m l.before) l.before.args.x.now (rows l.before) (k l.before)))
-more_a_fits c = let l = c.before.before.before.before in let s = l.before in part-fits s s.args.x.now refl s.requires.0.first (l.loop.j + 1) (omega arith)
+more_a_fits : (c : tie.After-product-a invariant-loop decreases-loop) → let l = c.before.before.before.before in
+    SFits w64 (sum (l.loop-j.j + 1) (term (m l.before) l.before.args.x.now (rows l.before) (k l.before)))
+more_a_fits c = let l = c.before.before.before.before in let s = l.before in part-fits s s.args.x.now refl s.requires.0.first (l.loop-j.j + 1) (omega arith)
 
-add_a : tie.Need-overflow-add-a invariant-loop decreases-loop
+add_a : tie.Need-overflow_add-a invariant-loop decreases-loop
 add_a c = rw (more-a c) (more_a_fits c)
 
-mul_product_2 : tie.Need-overflow-mul-product-2 invariant-loop decreases-loop
+mul_product_2 : tie.Need-offset_bounds-y-j invariant-loop decreases-loop
 mul_product_2 c = omega (arith, c.before.before.before.before.before.requires.0.most)
 
-shared_slice_copy_out_product_2 : tie.Need-shared-slice-copy-out-product-2 invariant-loop decreases-loop
+shared_slice_copy_out_product_2 : tie.Need-bounds-y-j invariant-loop decreases-loop
 shared_slice_copy_out_product_2 c = omega (arith, c.before.before.before.before.before.requires.0.second_long)
 
-product_requires_2 : tie.Need-product-requires-2 invariant-loop decreases-loop
+product_requires_2 : tie.Need-product-b-requires invariant-loop decreases-loop
 product_requires_2 c κs =
     let l = c.before.before.before.before.before in
     let s = l.before in
-    (entry_sign s s.args.y.now s.requires.0.second_long s.requires.0.second l.loop.j (omega arith), row_sign s l.loop.j (omega arith))
+    (entry_sign s s.args.y.now s.requires.0.second_long s.requires.0.second l.loop-j.j (omega arith), row_sign s l.loop-j.j (omega arith))
 
-more-b : (c : tie.After-product2 invariant-loop decreases-loop) → let l = c.before.before.before.before.before.before in
-    to_z w64 l.loop.b +ℤ to_z w64 (of_z w64 c.product2.result) ≡ sum (l.loop.j + 1) (term (m l.before) l.before.args.y.now (rows l.before) (k l.before))
+more-b : (c : tie.After-product-b invariant-loop decreases-loop) → let l = c.before.before.before.before.before.before in
+    to_z w64 l.loop-j.b-bits +ℤ to_z w64 (of_z w64 c.product-b.result) ≡ sum (l.loop-j.j + 1) (term (m l.before) l.before.args.y.now (rows l.before) (k l.before))
 more-b c =
     let l = c.before.before.before.before.before.before in
     let s = l.before in
-    next s s.args.y.now s.requires.0.second_long s.requires.0.second l.loop.j l.loop.b c.product2.result (omega arith) l.loop.invariant.2 c.product2.ensures (record { sfits = c.product2.type-inv })
+    next s s.args.y.now s.requires.0.second_long s.requires.0.second l.loop-j.j l.loop-j.b-bits c.product-b.result (omega arith) l.loop-j.invariant.2 c.product-b.ensures (record { sfits = c.product-b.type_inv })
 
-more_b_fits : (c : tie.After-product2 invariant-loop decreases-loop) → let l = c.before.before.before.before.before.before in
-    SFits w64 (sum (l.loop.j + 1) (term (m l.before) l.before.args.y.now (rows l.before) (k l.before)))
-more_b_fits c = let l = c.before.before.before.before.before.before in let s = l.before in part-fits s s.args.y.now s.requires.0.second_long s.requires.0.second (l.loop.j + 1) (omega arith)
+more_b_fits : (c : tie.After-product-b invariant-loop decreases-loop) → let l = c.before.before.before.before.before.before in
+    SFits w64 (sum (l.loop-j.j + 1) (term (m l.before) l.before.args.y.now (rows l.before) (k l.before)))
+more_b_fits c = let l = c.before.before.before.before.before.before in let s = l.before in part-fits s s.args.y.now s.requires.0.second_long s.requires.0.second (l.loop-j.j + 1) (omega arith)
 
-add_b : tie.Need-overflow-add-b invariant-loop decreases-loop
+add_b : tie.Need-overflow_add-b invariant-loop decreases-loop
 add_b c = rw (more-b c) (more_b_fits c)
 
-mul_product_3 : tie.Need-overflow-mul-product-3 invariant-loop decreases-loop
+mul_product_3 : tie.Need-offset_bounds-z-j invariant-loop decreases-loop
 mul_product_3 c = omega (arith, c.before.before.before.before.before.before.before.requires.0.most)
 
-shared_slice_copy_out_product_3 : tie.Need-shared-slice-copy-out-product-3 invariant-loop decreases-loop
+shared_slice_copy_out_product_3 : tie.Need-bounds-z-j invariant-loop decreases-loop
 shared_slice_copy_out_product_3 c = omega (arith, c.before.before.before.before.before.before.before.requires.0.third_long)
 
-product_requires_3 : tie.Need-product-requires-3 invariant-loop decreases-loop
+product_requires_3 : tie.Need-product-g-requires invariant-loop decreases-loop
 product_requires_3 c κs =
     let l = c.before.before.before.before.before.before.before in
     let s = l.before in
-    (entry_sign s s.args.z.now s.requires.0.third_long s.requires.0.third l.loop.j (omega arith), row_sign s l.loop.j (omega arith))
+    (entry_sign s s.args.z.now s.requires.0.third_long s.requires.0.third l.loop-j.j (omega arith), row_sign s l.loop-j.j (omega arith))
 
-more-g : (c : tie.After-product3 invariant-loop decreases-loop) → let l = c.before.before.before.before.before.before.before.before in
-    to_z w64 l.loop.g +ℤ to_z w64 (of_z w64 c.product3.result) ≡ sum (l.loop.j + 1) (term (m l.before) l.before.args.z.now (rows l.before) (k l.before))
+more-g : (c : tie.After-product-g invariant-loop decreases-loop) → let l = c.before.before.before.before.before.before.before.before in
+    to_z w64 l.loop-j.g-bits +ℤ to_z w64 (of_z w64 c.product-g.result) ≡ sum (l.loop-j.j + 1) (term (m l.before) l.before.args.z.now (rows l.before) (k l.before))
 more-g c =
     let l = c.before.before.before.before.before.before.before.before in
     let s = l.before in
-    next s s.args.z.now s.requires.0.third_long s.requires.0.third l.loop.j l.loop.g c.product3.result (omega arith) l.loop.invariant.3 c.product3.ensures (record { sfits = c.product3.type-inv })
+    next s s.args.z.now s.requires.0.third_long s.requires.0.third l.loop-j.j l.loop-j.g-bits c.product-g.result (omega arith) l.loop-j.invariant.3 c.product-g.ensures (record { sfits = c.product-g.type_inv })
 
-more_g_fits : (c : tie.After-product3 invariant-loop decreases-loop) → let l = c.before.before.before.before.before.before.before.before in
-    SFits w64 (sum (l.loop.j + 1) (term (m l.before) l.before.args.z.now (rows l.before) (k l.before)))
-more_g_fits c = let l = c.before.before.before.before.before.before.before.before in let s = l.before in part-fits s s.args.z.now s.requires.0.third_long s.requires.0.third (l.loop.j + 1) (omega arith)
+more_g_fits : (c : tie.After-product-g invariant-loop decreases-loop) → let l = c.before.before.before.before.before.before.before.before in
+    SFits w64 (sum (l.loop-j.j + 1) (term (m l.before) l.before.args.z.now (rows l.before) (k l.before)))
+more_g_fits c = let l = c.before.before.before.before.before.before.before.before in let s = l.before in part-fits s s.args.z.now s.requires.0.third_long s.requires.0.third (l.loop-j.j + 1) (omega arith)
 
-add_g : tie.Need-overflow-add-g invariant-loop decreases-loop
+add_g : tie.Need-overflow_add-g invariant-loop decreases-loop
 add_g c = rw (more-g c) (more_g_fits c)
 
-add_j : tie.Need-overflow-add-j invariant-loop decreases-loop
+add_j : tie.Need-overflow_step-j invariant-loop decreases-loop
 add_j c = omega (arith, c.before.before.before.before.before.before.before.before.before.requires.0.most)
 
-loop-less : tie.Need-loop-smaller invariant-loop decreases-loop
+loop-less : tie.Need-loop-j-smaller invariant-loop decreases-loop
 loop-less c = omega arith
 
-loop-again : tie.Need-loop-preserved invariant-loop decreases-loop
+loop-again : tie.Need-loop-j-preserved invariant-loop decreases-loop
 loop-again c = (
   omega arith,
   rw (more-a c.before.before.before.before) (to_z-of_z (more_a_fits c.before.before.before.before)),
@@ -188,7 +188,7 @@ loop-again c = (
 returns : tie.Need-returns invariant-loop decreases-loop
 unfolding raised
 returns c =
-    let l = c.before.loop in
+    let l = c.before.loop-j in
     let s = c.before.before in
     let e : l.j ≡ m s = omega arith in
     let at_end : (z : List ℤ) → length z ≡ m s → sum (m s) (term (m s) z (rows s) (k s)) ≡ raised z (rows s) (k s) =

@@ -11,24 +11,24 @@ use borrow.Author.Rules.{rules}
 use Rattle.split.proofs.thirds.f_at.Statement.{statement}
 use Rattle.split.proofs.thirds.f_at.Tie as tie
 
-a_at_requires : tie.Need-a-at-requires
+a_at_requires : tie.Need-a_at-requires
 a_at_requires c κs = search rules
 
-b_at_requires : tie.Need-b-at-requires
+b_at_requires : tie.Need-b_at-requires
 b_at_requires c κs = search rules
 
-module _ (k : tie.After-b-at) where
+module _ (k : tie.After-b_at) where
   sum_fits : SFits w32 (k.before.a_at.result +ℤ k.b_at.result)
   sum_fits = sfits_abs (k.before.a_at.result +ℤ k.b_at.result) (omega (arith, abs_add k.before.a_at.result k.b_at.result, k.before.a_at.ensures.1, k.b_at.ensures.1))
 
   -- as the machine has them
   first_is : to_z w32 (of_z w32 k.before.a_at.result) ≡ k.before.a_at.result
-  first_is = to_z-of_z {w = w32} {z = k.before.a_at.result} (record { sfits = k.before.a_at.ok })
+  first_is = to_z-of_z {w = w32} {z = k.before.a_at.result} (record { sfits = k.before.a_at.type_inv })
 
   second_is : to_z w32 (of_z w32 k.b_at.result) ≡ k.b_at.result
-  second_is = to_z-of_z {w = w32} {z = k.b_at.result} (record { sfits = k.b_at.ok })
+  second_is = to_z-of_z {w = w32} {z = k.b_at.result} (record { sfits = k.b_at.type_inv })
 
-add_result : tie.Need-overflow-add-result
+add_result : tie.Need-overflow_add-result
 add_result k = rw (first_is k, second_is k) (sum_fits k)
 
 returns : tie.Need-returns

@@ -6,18 +6,18 @@ use Rattle.split.specs.PartLaws.{third-made}
 use Rattle.split.proofs.thirds.fill_outer.Statement.{statement}
 use Rattle.split.proofs.thirds.fill_outer.Tie as tie
 
-outer_third_requires : tie.Need-outer-third-requires
+outer_third_requires : tie.Need-outer_third-requires
 outer_third_requires c κs =
     let q = c.before.requires in
     (q.0.all, (record { small = λ i l. le_trans (q.0.small.small i l) (limit-least c.before.args.n) }, q.1))
 
-same_length : tie.Need-same-length
+same_length : tie.Need-shape_of-w
 same_length c = search rules
 
 returns : tie.Need-returns
 returns c =
     let s = c.before.before.before in
-    third-made s.args.which s.args.n s.args.y.now _ s.requires.0 c.before.outer-third.ensures
+    third-made s.args.which s.args.n s.args.y.now _ s.requires.0 c.before.outer_third.ensures
 
 pub fill_outer_spec : {M : Type 1} → statement M
 fill_outer_spec = tie.close (tie.spec outer_third_requires same_length returns)

@@ -12,13 +12,13 @@ use borrow.Author.Rules.{rules}
 use Rattle.split.proofs.thirds.middle_at.Statement.{statement}
 use Rattle.split.proofs.thirds.middle_at.Tie as tie
 
-a_at_requires : tie.Need-a-at-requires
+a_at_requires : tie.Need-a_at-requires
 a_at_requires c κs = search rules
 
-b_at_requires : tie.Need-b-at-requires
+b_at_requires : tie.Need-b_at-requires
 b_at_requires c κs = search rules
 
-module _ (k : tie.After-b-at) where
+module _ (k : tie.After-b_at) where
   less_abs : nat_abs (k.before.a_at.result -ℤ k.b_at.result) ≤ 2 * 2 ^ 26
   less_abs = omega (arith, abs_sub k.before.a_at.result k.b_at.result, k.before.a_at.ensures.1, k.b_at.ensures.1)
 
@@ -27,33 +27,33 @@ module _ (k : tie.After-b-at) where
 
   -- as the machine has them
   a_is : to_z w32 (of_z w32 k.before.a_at.result) ≡ k.before.a_at.result
-  a_is = to_z-of_z {w = w32} {z = k.before.a_at.result} (record { sfits = k.before.a_at.ok })
+  a_is = to_z-of_z {w = w32} {z = k.before.a_at.result} (record { sfits = k.before.a_at.type_inv })
 
   b_is : to_z w32 (of_z w32 k.b_at.result) ≡ k.b_at.result
-  b_is = to_z-of_z {w = w32} {z = k.b_at.result} (record { sfits = k.b_at.ok })
+  b_is = to_z-of_z {w = w32} {z = k.b_at.result} (record { sfits = k.b_at.type_inv })
 
-module _ (k : tie.After-c-at) where
-  sum_fits : SFits w32 (k.before.before.a_at.result -ℤ k.before.b_at.result +ℤ k.c-at.result)
+module _ (k : tie.After-c_at) where
+  sum_fits : SFits w32 (k.before.before.a_at.result -ℤ k.before.b_at.result +ℤ k.c_at.result)
   sum_fits =
       let z = k.before.before.a_at.result -ℤ k.before.b_at.result in
-      sfits_abs (z +ℤ k.c-at.result) (omega (arith, abs_add z k.c-at.result, less_abs k.before, k.c-at.ensures.1))
+      sfits_abs (z +ℤ k.c_at.result) (omega (arith, abs_add z k.c_at.result, less_abs k.before, k.c_at.ensures.1))
 
-  c_is : to_z w32 (of_z w32 k.c-at.result) ≡ k.c-at.result
-  c_is = to_z-of_z {w = w32} {z = k.c-at.result} (record { sfits = k.c-at.ok })
+  c_is : to_z w32 (of_z w32 k.c_at.result) ≡ k.c_at.result
+  c_is = to_z-of_z {w = w32} {z = k.c_at.result} (record { sfits = k.c_at.type_inv })
 
-sub_result : tie.Need-overflow-sub-result
+sub_result : tie.Need-overflow_sub-result
 sub_result k = rw (a_is k, b_is k) (less-fits k)
 
-c_at_requires : tie.Need-c-at-requires
+c_at_requires : tie.Need-c_at-requires
 c_at_requires c κs = search rules
 
-add_result : tie.Need-overflow-add-result
+add_result : tie.Need-overflow_add-result
 add_result k = rw (a_is k.before, b_is k.before, to_z-of_z (less-fits k.before), c_is k) (sum_fits k)
 
 returns : tie.Need-returns
 returns k =
     rw (a_is k.before, b_is k.before, to_z-of_z (less-fits k.before), c_is k, to_z-of_z (sum_fits k))
-    (ap₂ (λ (u v : ℤ). u +ℤ v) (ap₂ (λ (u v : ℤ). u -ℤ v) k.before.before.a_at.ensures.0 k.before.b_at.ensures.0) k.c-at.ensures.0)
+    (ap₂ (λ (u v : ℤ). u +ℤ v) (ap₂ (λ (u v : ℤ). u -ℤ v) k.before.before.a_at.ensures.0 k.before.b_at.ensures.0) k.c_at.ensures.0)
 
 pub middle_at_spec : {M : Type 1} → statement M
 middle_at_spec =

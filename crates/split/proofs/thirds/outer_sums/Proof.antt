@@ -55,10 +55,10 @@ join_requires c κs =
     let l = sym (b_long s) in
     (g_long s ∙ l, (s.requires.1.first ∙ l, (s.requires.1.second ∙ l, (b_small s, g_small s))))
 
-same_length : tie.Need-same-length
+same_length : tie.Need-shape_of-plus
 same_length c = search rules
 
-same_length_2 : tie.Need-same-length-2
+same_length_2 : tie.Need-shape_of-minus
 same_length_2 c = search rules
 
 returns : tie.Need-returns

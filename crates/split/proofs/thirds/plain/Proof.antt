@@ -26,10 +26,10 @@ module _ (c : tie.Start) where
   is : to_z w32 (of_z w32 p) ≡ p
   is = to_z-of_z c.ranges.p
 
-cast_result : tie.Need-overflow-cast-result
+cast_result : tie.Need-overflow_cast-result
 cast_result c = rw (is c) (yes_non_neg (low c), record { fits = omega (arith, small c) })
 
-cast_result_2 : tie.Need-overflow-cast-result-2
+cast_result_2 : tie.Need-overflow_cast-result-2
 cast_result_2 c = rw (is c) (record { fits = omega (arith, small c) })
 
 returns : tie.Need-returns

@@ -59,31 +59,31 @@ module _ (c : tie.Start) where
       sfits_abs (e *ℤ (p -ℤ pos (2 ^ 27)) +ℤ f *ℤ (q -ℤ pos (2 ^ 27)))
       (omega (arith, abs_add (e *ℤ (p -ℤ pos (2 ^ 27))) (f *ℤ (q -ℤ pos (2 ^ 27))), first≤, second≤))
 
-cast_result : tie.Need-overflow-cast-result
+cast_result : tie.Need-overflow_cast-result
 cast_result c = rw (to_z-of_z c.ranges.e) (e-wide c)
 
-cast_result_2 : tie.Need-overflow-cast-result-2
+cast_result_2 : tie.Need-overflow_cast-result-2
 cast_result_2 c = rw (to_z-of_z c.ranges.p) (p-wide c)
 
-sub_result : tie.Need-overflow-sub-result
+sub_result : tie.Need-overflow_sub-result
 sub_result c = rw (to_z-of_z c.ranges.p, to_z-of_z (p-wide c)) (p-fits c)
 
-mul_result : tie.Need-overflow-mul-result
+mul_result : tie.Need-overflow_mul-result
 mul_result c = rw (to_z-of_z c.ranges.e, to_z-of_z (e-wide c), to_z-of_z c.ranges.p, to_z-of_z (p-wide c), to_z-of_z (p-fits c)) (first_fits c)
 
-cast_result_3 : tie.Need-overflow-cast-result-3
+cast_result_3 : tie.Need-overflow_cast-result-3
 cast_result_3 c = rw (to_z-of_z c.ranges.f) (f-wide c)
 
-cast_result_4 : tie.Need-overflow-cast-result-4
+cast_result_4 : tie.Need-overflow_cast-result-4
 cast_result_4 c = rw (to_z-of_z c.ranges.q) (q-wide c)
 
-sub_result_2 : tie.Need-overflow-sub-result-2
+sub_result_2 : tie.Need-overflow_sub-result-2
 sub_result_2 c = rw (to_z-of_z c.ranges.q, to_z-of_z (q-wide c)) (q-fits c)
 
-mul_result_2 : tie.Need-overflow-mul-result-2
+mul_result_2 : tie.Need-overflow_mul-result-2
 mul_result_2 c = rw (to_z-of_z c.ranges.f, to_z-of_z (f-wide c), to_z-of_z c.ranges.q, to_z-of_z (q-wide c), to_z-of_z (q-fits c)) (second_fits c)
 
-add_result : tie.Need-overflow-add-result
+add_result : tie.Need-overflow_add-result
 add_result c =
     rw (
       to_z-of_z c.ranges.e,

@@ -29,13 +29,13 @@ module _ (c : tie.Start) where
   is : to_z w32 (of_z w32 (to_z w32 (of_z w32 c.args.a) +ℤ pos (2 ^ 27))) ≡ z
   is = ap (λ (a : ℤ). to_z w32 (of_z w32 (a +ℤ pos (2 ^ 27)))) (to_z-of_z c.ranges.a) ∙ to_z-of_z fits
 
-add_result : tie.Need-overflow-add-result
+add_result : tie.Need-overflow_add-result
 add_result c = rw (to_z-of_z c.ranges.a) (fits c)
 
-cast_result : tie.Need-overflow-cast-result
+cast_result : tie.Need-overflow_cast-result
 cast_result c = rw (is c) (yes_non_neg (low c), record { fits = omega (arith, small c) })
 
-cast_result_2 : tie.Need-overflow-cast-result-2
+cast_result_2 : tie.Need-overflow_cast-result-2
 cast_result_2 c = rw (is c) (record { fits = omega (arith, small c) })
 
 returns : tie.Need-returns

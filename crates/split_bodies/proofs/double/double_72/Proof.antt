@@ -4,20 +4,20 @@ use Rattle.double_route.specs.Double.{offered}
 use Rattle.split_bodies.proofs.double.double_72.Statement.{statement}
 use Rattle.split_bodies.proofs.double.double_72.Tie as tie
 
-slice_aggregate_windowed_72 : tie.Need-slice-aggregate-windowed-72
+slice_aggregate_windowed_72 : tie.Need-slice_bounds-windowed_72-end
 slice_aggregate_windowed_72 c = search rules
 
-windowed_72_requires : tie.Need-windowed-72-requires
+windowed_72_requires : tie.Need-windowed_72-requires
 windowed_72_requires c κs = search rules
 
-slice_aggregate_double_block : tie.Need-slice-aggregate-double-block
+slice_aggregate_double_block : tie.Need-slice_bounds-double_block-end
 slice_aggregate_double_block c = search rules
 
-double_block_requires : tie.Need-double-block-requires
+double_block_requires : tie.Need-double_block-requires
 unfolding offered
-double_block_requires c κs = (tt, (c.before.before.before.windowed-72.ensures, search rules))
+double_block_requires c κs = (tt, (c.before.before.before.windowed_72.ensures, search rules))
 
-same_length : tie.Need-same-length
+same_length : tie.Need-shape_of-out
 same_length c = search rules
 
 returns : tie.Need-returns

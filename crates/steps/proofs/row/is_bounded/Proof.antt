@@ -31,44 +31,44 @@ module _ (lo hi : ℤ) (f : List ℕ) where
   unfolding bounded
   by_high e l = rw (e, l)
 
-is_number_requires : tie.Need-is-number-requires
+is_number_requires : tie.Need-is_number-requires
 is_number_requires c κs = search rules
 
-returns : tie.Need-returns
+returns : tie.Need-returns-then-not-is_number
 returns c =
     let a = c.before.before.before.args in
-    sym (no_number a.least a.most a.field.now (sym c.before.is_number.ensures ∙ not-true c.before.is_number.result c.if1.true))
+    sym (no_number a.least a.most a.field.now (sym c.before.is_number.ensures ∙ not-true c.before.is_number.result c.if-not-is_number.true-raw))
 
 -- behind the test of the form
-module _ (c : tie.After-value) where
+module _ (c : tie.After-value-v) where
   abbrev text : List ℕ
   text = c.before.before.before.before.args.field.now
 
   form : is_number digits text ≡ true
-  form = sym c.before.before.is_number.ensures ∙ not-false c.before.before.is_number.result c.before.if1.false
+  form = sym c.before.before.is_number.ensures ∙ not-false c.before.before.is_number.result c.before.if-not-is_number.false-raw
 
   -- the numbers, as the machine has them
-  value-is : to_z w64 (of_z w64 c.value.result) ≡ value text
-  value-is = to_z-of_z (record { sfits = c.value.type-inv }) ∙ c.value.ensures
+  value-is : to_z w64 (of_z w64 c.value-v.result) ≡ value text
+  value-is = to_z-of_z {w = w64} (record { sfits = c.value-v.type_inv }) ∙ c.value-v.ensures
 
-value_requires : tie.Need-value-requires
+value_requires : tie.Need-value-v-requires
 value_requires c κs =
     number_wider digits most_digits c.before.before.before.args.field.now (omega arith)
-    (is_T (sym c.before.is_number.ensures ∙ not-false c.before.is_number.result c.if1.false))
+    (is_T (sym c.before.is_number.ensures ∙ not-false c.before.is_number.result c.if-not-is_number.false-raw))
 
-returns_2 : tie.Need-returns-2
+returns_2 : tie.Need-returns-then-v-least
 returns_2 c =
     let v = c.before in
     let a = v.before.before.before.before in
-    sym (too_low a.args.least a.args.most (text v) (form v) (rw (value-is v, to_z-of_z a.ranges.least) at c.if2.true))
+    sym (too_low a.args.least a.args.most (text v) (form v) (rw (value-is v, to_z-of_z a.ranges.least) at c.if-v-least.true))
 
-returns_3 : tie.Need-returns-3
+returns_3 : tie.Need-returns
 returns_3 c =
     let v = c.before in
     let a = v.before.before.before.before in
     rw
     (value-is v, to_z-of_z a.ranges.most)
-    (sym (by_high a.args.least a.args.most (text v) (form v) (rw (value-is v, to_z-of_z a.ranges.least) at c.if2.false)))
+    (sym (by_high a.args.least a.args.most (text v) (form v) (rw (value-is v, to_z-of_z a.ranges.least) at c.if-v-least.false)))
 
 pub is_bounded_spec : {M : Type 1} → statement M
 is_bounded_spec = tie.close (tie.spec is_number_requires returns value_requires returns_2 returns_3)

@@ -7,10 +7,10 @@ use mir.Facts.{to_z_pos}
 use Rattle.steps.proofs.row.last_place.Statement.{statement}
 use Rattle.steps.proofs.row.last_place.Tie as tie
 
-sub_result : tie.Need-overflow-sub-result
+sub_result : tie.Need-overflow_sub-result
 sub_result c = search rules
 
-cast_result : tie.Need-overflow-cast-result
+cast_result : tie.Need-overflow_cast-result
 cast_result c = search rules
 
 returns : tie.Need-returns

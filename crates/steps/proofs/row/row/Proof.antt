@@ -14,66 +14,66 @@ use Rattle.steps.specs.RowLaws.{row-none, row-some}
 use Rattle.steps.proofs.row.row.Statement.{statement}
 use Rattle.steps.proofs.row.row.Tie as tie
 
-cut_requires : tie.Need-cut-requires
+cut_requires : tie.Need-cut-c-requires
 cut_requires c κs = search rules
 
-no_line_requires : tie.Need-no-line-requires
+no_line_requires : tie.Need-no_line-requires
 no_line_requires c κs = search rules
 
-returns : tie.Need-returns
+returns : tie.Need-returns-then-not-c
 returns c =
     let t = c.before in
     let a = t.before.before.before.before.args in
-    let r = t.before.before.cut in
-    c.no_line.ensures ∙ row-none a.m a.line.now r.result r.ensures (not-true r.result.ok t.if1.true)
+    let r = t.before.before.cut-c in
+    c.no_line.ensures ∙ row-none a.m a.line.now r.result r.ensures (not-true r.result.ok t.if-not-c.true)
 
-sub_numbers : tie.Need-overflow-sub-numbers
+sub_numbers : tie.Need-slice_bounds-numbers-count
 sub_numbers c = search rules
 
-part_numbers_start : tie.Need-slice-bounds-numbers-start
+part_numbers_start : tie.Need-slice_bounds-numbers-start
 part_numbers_start c = search rules
 
-is_cut : (c : tie.Else1) → c.before.before.cut.result.ok ≡ true
-is_cut c = not-false c.before.before.cut.result.ok c.if1.false
+is_cut : (c : tie.Else-not-c) → c.before.before.cut-c.result.ok ≡ true
+is_cut c = not-false c.before.before.cut-c.result.ok c.if-not-c.false
 
-cuts : (c : tie.Else1) → (c.before.before.cut.result.a < c.before.before.cut.result.b) × (c.before.before.cut.result.b < length c.before.before.before.before.args.line.now)
-cuts c = c.before.before.cut.ensures.less (is_cut c)
+cuts : (c : tie.Else-not-c) → (c.before.before.cut-c.result.a < c.before.before.cut-c.result.b) × (c.before.before.cut-c.result.b < length c.before.before.before.before.args.line.now)
+cuts c = c.before.before.cut-c.ensures.less (is_cut c)
 
-part_numbers_end : tie.Need-slice-bounds-numbers-end
+part_numbers_end : tie.Need-slice_bounds-numbers-end
 part_numbers_end c = omega (arith, (cuts c).0, (cuts c).1)
 
-add_numbers : tie.Need-overflow-add-numbers
+add_numbers : tie.Need-overflow_add-a
 add_numbers c = omega (arith, (cuts c.before).0, (cuts c.before).1)
 
-sub_numbers_2 : tie.Need-overflow-sub-numbers-2
+sub_numbers_2 : tie.Need-slice_bounds-numbers-count-2
 sub_numbers_2 c = omega (arith, (cuts c.before).0, (cuts c.before).1)
 
-part_numbers_start_2 : tie.Need-slice-bounds-numbers-start-2
+part_numbers_start_2 : tie.Need-slice_bounds-numbers-start-2
 part_numbers_start_2 c = omega (arith, (cuts c.before).0, (cuts c.before).1)
 
-part_numbers_end_2 : tie.Need-slice-bounds-numbers-end-2
+part_numbers_end_2 : tie.Need-slice_bounds-numbers-end-2
 part_numbers_end_2 c = omega (arith, (cuts c.before).0, (cuts c.before).1)
 
-add_numbers_2 : tie.Need-overflow-add-numbers-2
+add_numbers_2 : tie.Need-overflow_add-b
 add_numbers_2 c = omega (arith, (cuts c.before.before).0, (cuts c.before.before).1)
 
-sub_numbers_3 : tie.Need-overflow-sub-numbers-3
+sub_numbers_3 : tie.Need-slice_bounds-numbers-count-3
 sub_numbers_3 c = omega (arith, (cuts c.before.before).0, (cuts c.before.before).1)
 
-part_numbers_start_3 : tie.Need-slice-bounds-numbers-start-3
+part_numbers_start_3 : tie.Need-slice_bounds-numbers-start-3
 part_numbers_start_3 c = omega (arith, (cuts c.before.before).0, (cuts c.before.before).1)
 
-part_numbers_end_3 : tie.Need-slice-bounds-numbers-end-3
+part_numbers_end_3 : tie.Need-slice_bounds-numbers-end-3
 part_numbers_end_3 c = search rules
 
 numbers_requires : tie.Need-numbers-requires
 numbers_requires c κs = search rules
 
-returns_2 : tie.Need-returns-2
+returns_2 : tie.Need-returns
 returns_2 c =
     let e = c.before.before.before.before in
     let a = e.before.before.before.before.args in
-    let r = e.before.before.cut in
+    let r = e.before.before.cut-c in
     c.numbers.ensures
     ∙ ap (λ (l : List ℕ). numbers_of a.m (part a.line.now 0 r.result.a) (part a.line.now (r.result.a + 1) r.result.b) l) (rest-is a.line.now (r.result.b + 1))
     ∙ row-some a.m a.line.now r.result r.ensures (is_cut e)

@@ -6,16 +6,16 @@ use borrow.Author.Rules.{rules}
 use Rattle.table_report.proofs.print.put_saying.Statement.{statement}
 use Rattle.table_report.proofs.print.put_saying.Tie as tie
 
-put_text_requires : tie.Need-put-text-requires
+put_text_requires : tie.Need-put_text-at-requires
 put_text_requires c κs = search rules
 
-put_more_requires : tie.Need-put-more-requires
+put_more_requires : tie.Need-put_more-at-requires
 put_more_requires c κs = search rules
 
-put_byte_requires : tie.Need-put-byte-requires
+put_byte_requires : tie.Need-put_byte-requires
 put_byte_requires c κs = search rules
 
-same_length : tie.Need-same-length
+same_length : tie.Need-shape_of-out
 same_length c = search rules
 
 returns : tie.Need-returns
@@ -24,8 +24,8 @@ returns c =
     let m = e.before.before.before.before in
     let w = m.before.before.before.before in
     let s = w.before.before.before.before in (
-      rw (saying-is s.args.word.now s.args.n) at (put_then (put_then w.put-text.ensures m.put_more.ensures.0) e.put_byte.ensures),
-      omega (arith, w.put-text.ensures.behind, m.put_more.ensures.1, e.put_byte.ensures.behind),
+      rw (saying-is s.args.word.now s.args.n) at (put_then (put_then w.put_text-at.ensures m.put_more-at.ensures.0) e.put_byte.ensures),
+      omega (arith, w.put_text-at.ensures.behind, m.put_more-at.ensures.1, e.put_byte.ensures.behind),
     )
 
 pub put_saying_spec : {M : Type 1} → statement M

@@ -8,26 +8,26 @@ use Rattle.text.specs.NumberLaws.{decimal_length_one, decimal_length_more, decim
 use Rattle.text.proofs.columns.digits.Statement.{statement}
 use Rattle.text.proofs.columns.digits.Tie as tie
 
-abbrev invariant-loop : tie.invariant-loop
+abbrev invariant-loop : tie.invariant-loop-left
 invariant-loop n left₀ count₀ left count = count + length (decimal left) ≡ 1 + length (decimal n)
 
-abbrev decreases-loop : tie.decreases-loop
+abbrev decreases-loop : tie.decreases-loop-left
 decreases-loop n left₀ count₀ left count = left
 
-loop-holds : tie.Need-loop-init invariant-loop decreases-loop
+loop-holds : tie.Need-loop-left-init invariant-loop decreases-loop
 loop-holds c = omega arith
 
-add_count : tie.Need-overflow-add-count invariant-loop decreases-loop
+add_count : tie.Need-overflow_add-count invariant-loop decreases-loop
 add_count c = omega (arith, decimal-most 19 c.before.before.args.n (omega arith))
 
-loop-less : tie.Need-loop-smaller invariant-loop decreases-loop
+loop-less : tie.Need-loop-left-smaller invariant-loop decreases-loop
 loop-less c = omega arith
 
-loop-again : tie.Need-loop-preserved invariant-loop decreases-loop
-loop-again c = omega (arith, decimal_length_more c.before.loop.left c.loop-test.true)
+loop-again : tie.Need-loop-left-preserved invariant-loop decreases-loop
+loop-again c = omega (arith, decimal_length_more c.before.loop-left.left c.loop-left-test.true)
 
 returns : tie.Need-returns invariant-loop decreases-loop
-returns c = omega (arith, decimal_length_one c.before.loop.left (omega arith))
+returns c = omega (arith, decimal_length_one c.before.loop-left.left (omega arith))
 
 pub digits_spec : {M : Type 1} → statement M
 digits_spec =

@@ -33,33 +33,33 @@ module _ (c : tie.After-width) where
   in_front : place ≤ length columns
   in_front = omega arith
 
-blanks : (c : tie.After-put-blanks) → c.put-blanks.new.0 ≡ replicate (place c.before.before) blank
+blanks : (c : tie.After-put_blanks) → c.put_blanks.new.out ≡ replicate (place c.before.before) blank
 blanks c =
     let w = c.before.before in
-    c.put-blanks.ensures ∙ ap (λ n. replicate n blank) (length-take-le (place w) (columns w) (in_front w))
+    c.put_blanks.ensures ∙ ap (λ n. replicate n blank) (length-take-le (place w) (columns w) (in_front w))
 
 width_requires : tie.Need-width-requires
 width_requires c κs = search rules
 
-sub_at : tie.Need-overflow-sub-at
+sub_at : tie.Need-overflow_sub-at
 sub_at c = omega (arith, wide c)
 
-slice_relend_prefix_put_blanks : tie.Need-slice-relend-prefix-put-blanks
+slice_relend_prefix_put_blanks : tie.Need-slice_bounds-put_blanks-end
 slice_relend_prefix_put_blanks c = search rules
 
-slice_aggregate_put_blanks : tie.Need-slice-aggregate-put-blanks
+slice_aggregate_put_blanks : tie.Need-slice_bounds-put_blanks-end-2
 slice_aggregate_put_blanks c = let w = c.before in sym (length-take-le (place w) (columns w) (in_front w))
 
-put_blanks_requires : tie.Need-put-blanks-requires
+put_blanks_requires : tie.Need-put_blanks-requires
 put_blanks_requires c κs = search rules
 
-put_number_requires : tie.Need-put-number-requires
+put_number_requires : tie.Need-put_number-requires
 put_number_requires c κs =
     let b = c.before.before.before in
     let w = b.before.before in
     rw (to_z-of_z w.before.before.ranges.v, blanks b) (omega (arith, ends w, length-append (replicate (place w) blank) (drop (place w) (columns w)), length-replicate (place w) blank, length-drop (place w) (columns w)))
 
-same_length : tie.Need-same-length
+same_length : tie.Need-shape_of-out
 same_length c = search rules
 
 returns : tie.Need-returns
@@ -67,7 +67,7 @@ returns c =
     let p = c.before.before in
     let b = p.before.before.before.before in
     let w = b.before.before in
-    put_columns (printed (number w)) (columns w) (place w) (ends w) (rw (to_z-of_z w.before.before.ranges.v, blanks b) at p.put-number.ensures)
+    put_columns (printed (number w)) (columns w) (place w) (ends w) (rw (to_z-of_z w.before.before.ranges.v, blanks b) at p.put_number.ensures)
 
 pub put_aligned_spec : {M : Type 1} → statement M
 put_aligned_spec =

@@ -10,7 +10,7 @@ use Rattle.text.proofs.line.next_line.Tie as tie
 find_requires : tie.Need-find-requires
 find_requires c κs = search rules
 
-add_result : tie.Need-overflow-add-result
+add_result : tie.Need-overflow_add-result
 add_result c =
     let s = c.before.before in
     omega (arith, end-most line_feed s.args.input.now s.args.at c.find.result s.requires c.find.ensures)

@@ -28,7 +28,7 @@ put_digits_below t =
 
 put_digits_cast_out :
     (t : ℕ) →
-    put-digits-lts.Need-overflow-cast-out
+    put-digits-lts.Need-overflow_cast-out
     (put_digits_below t, put-digits.Post)
     (put_digits_at t)
     put-digits.Post
@@ -36,25 +36,25 @@ put_digits_cast_out t c = search rules
 
 put_digits_add_out :
     (t : ℕ) →
-    put-digits-lts.Need-overflow-add-out
+    put-digits-lts.Need-overflow_add-out
     (put_digits_below t, put-digits.Post)
     (put_digits_at t)
     put-digits.Post
 put_digits_add_out t c = search rules
 
-put_digits_slice_write_out : (t : ℕ) → put-digits-lts.Need-slice-write-out (
+put_digits_slice_write_out : (t : ℕ) → put-digits-lts.Need-bounds-out-at (
   put_digits_below t,
   put-digits.Post,
 ) (put_digits_at t) put-digits.Post
-put_digits_slice_write_out t c = omega (arith, decimal_length_one c.before.before.args.n c.if1.true)
+put_digits_slice_write_out t c = omega (arith, decimal_length_one c.before.before.args.n c.if-n-lt10.true)
 
-put_digits_add_result : (t : ℕ) → put-digits-lts.Need-overflow-add-result (
+put_digits_add_result : (t : ℕ) → put-digits-lts.Need-overflow_add-result (
   put_digits_below t,
   put-digits.Post,
 ) (put_digits_at t) put-digits.Post
-put_digits_add_result t c = omega (arith, decimal_length_one c.before.before.args.n c.if1.true)
+put_digits_add_result t c = omega (arith, decimal_length_one c.before.before.args.n c.if-n-lt10.true)
 
-put_digits_same_length : (t : ℕ) → put-digits-lts.Need-same-length (
+put_digits_same_length : (t : ℕ) → put-digits-lts.Need-shape_of-out-then-n-lt10 (
   put_digits_below t,
   put-digits.Post,
 ) (put_digits_at t) put-digits.Post
@@ -62,55 +62,55 @@ put_digits_same_length t c = search rules
 
 put_digits_returns :
     (t : ℕ) →
-    put-digits-lts.Need-returns
+    put-digits-lts.Need-returns-then-n-lt10
     (put_digits_below t, put-digits.Post)
     (put_digits_at t)
     put-digits.Post
-put_digits_returns t c = rw (decimal-one c.before.before.args.n c.if1.true) (put_byte (digit c.before.before.args.n))
+put_digits_returns t c = rw (decimal-one c.before.before.args.n c.if-n-lt10.true) (put_byte (digit c.before.before.args.n))
 
-put_digits_put_digits_requires : (t : ℕ) → put-digits-lts.Need-put-digits-requires (
+put_digits_put_digits_requires : (t : ℕ) → put-digits-lts.Need-put_digits-next-requires (
   put_digits_below t,
   put-digits.Post,
 ) (put_digits_at t) put-digits.Post
-put_digits_put_digits_requires t c κs = (omega arith, omega (arith, decimal_length_more c.before.before.before.args.n c.before.if1.false))
+put_digits_put_digits_requires t c κs = (omega arith, omega (arith, decimal_length_more c.before.before.before.args.n c.before.if-n-lt10.false))
 
-put_digits_cast_out_2 : (t : ℕ) → put-digits-lts.Need-overflow-cast-out-2 (
+put_digits_cast_out_2 : (t : ℕ) → put-digits-lts.Need-overflow_cast-out-2 (
   put_digits_below t,
   put-digits.Post,
 ) (put_digits_at t) put-digits.Post
 put_digits_cast_out_2 t c = search rules
 
-put_digits_add_out_2 : (t : ℕ) → put-digits-lts.Need-overflow-add-out-2 (
+put_digits_add_out_2 : (t : ℕ) → put-digits-lts.Need-overflow_add-out-2 (
   put_digits_below t,
   put-digits.Post,
 ) (put_digits_at t) put-digits.Post
 put_digits_add_out_2 t c = search rules
 
-put_digits_slice_write_out_2 : (t : ℕ) → put-digits-lts.Need-slice-write-out-2 (
+put_digits_slice_write_out_2 : (t : ℕ) → put-digits-lts.Need-bounds-out-next (
   put_digits_below t,
   put-digits.Post,
 ) (put_digits_at t) put-digits.Post
-put_digits_slice_write_out_2 t c = omega (arith, decimal_length_more c.before.before.before.before.before.before.args.n c.before.before.before.before.if1.false, c.before.before.put-digits.ensures.behind, c.before.before.put-digits.auto.1.0)
+put_digits_slice_write_out_2 t c = omega (arith, decimal_length_more c.before.before.before.before.before.before.args.n c.before.before.before.before.if-n-lt10.false, c.before.before.put_digits-next.ensures.behind, c.before.before.put_digits-next.auto.out)
 
-put_digits_add_result_2 : (t : ℕ) → put-digits-lts.Need-overflow-add-result-2 (
+put_digits_add_result_2 : (t : ℕ) → put-digits-lts.Need-overflow_add-result-2 (
   put_digits_below t,
   put-digits.Post,
 ) (put_digits_at t) put-digits.Post
-put_digits_add_result_2 t c = omega (arith, decimal_length_more c.before.before.before.before.before.before.args.n c.before.before.before.before.if1.false, c.before.before.put-digits.ensures.behind)
+put_digits_add_result_2 t c = omega (arith, decimal_length_more c.before.before.before.before.before.before.args.n c.before.before.before.before.if-n-lt10.false, c.before.before.put_digits-next.ensures.behind)
 
-put_digits_same_length_2 : (t : ℕ) → put-digits-lts.Need-same-length-2 (
+put_digits_same_length_2 : (t : ℕ) → put-digits-lts.Need-shape_of-out (
   put_digits_below t,
   put-digits.Post,
 ) (put_digits_at t) put-digits.Post
-put_digits_same_length_2 t c = length-set c.before.before.put-digits.new.1.0 c.before.before.put-digits.result (digit (c.before.before.before.before.before.before.args.n % 10)) ∙ c.before.before.put-digits.auto.1.0
+put_digits_same_length_2 t c = length-set c.before.before.put_digits-next.new.out c.before.before.put_digits-next.result (digit (c.before.before.before.before.before.before.args.n % 10)) ∙ c.before.before.put_digits-next.auto.out
 
-put_digits_returns_2 : (t : ℕ) → put-digits-lts.Need-returns-2 (
+put_digits_returns_2 : (t : ℕ) → put-digits-lts.Need-returns (
   put_digits_below t,
   put-digits.Post,
 ) (put_digits_at t) put-digits.Post
 put_digits_returns_2 t c =
     let n = c.before.before.before.before.before.before.args.n in
-    rw (decimal-more n c.before.before.before.before.if1.false) (put_then c.before.before.put-digits.ensures (put_byte (digit (n % 10))))
+    rw (decimal-more n c.before.before.before.before.if-n-lt10.false) (put_then c.before.before.put_digits-next.ensures (put_byte (digit (n % 10))))
 
 pub +put_digits_spec : {M : Type 1} → statement M
 +put_digits_spec = close μ_put_digits λ t. put-digits-lts.spec (

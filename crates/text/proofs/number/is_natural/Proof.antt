@@ -28,28 +28,28 @@ module _ (s : List ℕ) (m : ℕ) where
   unfolding is_natural
   rest h k z = rw (le-leb 1 (length s) h, le-leb (length s) m k, z)
 
-returns : tie.Need-returns
-returns c = sym (none c.before.before.args.s.now c.before.before.args.most c.if1.true)
+returns : tie.Need-returns-then-s-lt1
+returns c = sym (none c.before.before.args.s.now c.before.before.args.most c.if-s-lt1.true)
 
-returns_2 : tie.Need-returns-2
-returns_2 c = sym (long c.before.before.before.args.s.now c.before.before.before.args.most c.before.if1.false c.if2.true)
+returns_2 : tie.Need-returns-then-most-s
+returns_2 c = sym (long c.before.before.before.args.s.now c.before.before.before.args.most c.before.if-s-lt1.false c.if-most-s.true)
 
-leading_zero_requires : tie.Need-leading-zero-requires
+leading_zero_requires : tie.Need-leading_zero-requires
 leading_zero_requires c κs = search rules
 
-returns_3 : tie.Need-returns-3
+returns_3 : tie.Need-returns-then-leading_zero
 returns_3 c =
     let e = c.before.before in
-    sym (lead e.before.before.before.args.s.now e.before.before.before.args.most e.before.if1.false e.if2.false (sym c.before.leading-zero.ensures ∙ c.if3.true))
+    sym (lead e.before.before.before.args.s.now e.before.before.before.args.most e.before.if-s-lt1.false e.if-most-s.false (sym c.before.leading_zero.ensures ∙ c.if-leading_zero.true))
 
-all_digits_requires : tie.Need-all-digits-requires
+all_digits_requires : tie.Need-all_digits-requires
 all_digits_requires c κs = search rules
 
-returns_4 : tie.Need-returns-4
+returns_4 : tie.Need-returns
 returns_4 c =
     let b = c.before in
     let e = b.before.before in
-    c.all_digits.ensures ∙ sym (rest e.before.before.before.args.s.now e.before.before.before.args.most e.before.if1.false e.if2.false (sym b.before.leading-zero.ensures ∙ b.if3.false))
+    c.all_digits.ensures ∙ sym (rest e.before.before.before.args.s.now e.before.before.before.args.most e.before.if-s-lt1.false e.if-most-s.false (sym b.before.leading_zero.ensures ∙ b.if-leading_zero.false))
 
 pub is_natural_spec : {M : Type 1} → statement M
 is_natural_spec =

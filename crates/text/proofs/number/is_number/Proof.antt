@@ -16,7 +16,7 @@ use Rattle.text.proofs.number.is_number.Statement.{statement}
 use Rattle.text.proofs.number.is_number.Tie as tie
 
 -- behind a minus
-module _ (c : tie.Then1) where
+module _ (c : tie.Then-is_signed) where
   abbrev text : List ℕ
   text = c.before.before.before.args.s.now
 
@@ -24,7 +24,7 @@ module _ (c : tie.Then1) where
   most = c.before.before.before.args.most
 
   signed : is_signed text ≡ true
-  signed = sym c.before.is_Signed.ensures ∙ c.if1.true
+  signed = sym c.before.is_signed.ensures ∙ c.if-is_signed.true
 
   long : 1 ≤ length text
   long = signed_long text signed
@@ -33,46 +33,46 @@ module _ (c : tie.Then1) where
   by_digits : (b : Bool) → is_natural most (drop 1 text) ≡ b → is_number most text ≡ (b && not (eqb (natural (drop 1 text)) 0))
   by_digits b e = rw (← e) (number-signed most text signed)
 
-digits : (c : tie.After-is-natural) → is_natural (most c.before.before) (drop 1 (text c.before.before)) ≡ c.is-natural.result
-digits c = ap (is_natural (most c.before.before)) (sym (rest-is (text c.before.before) 1)) ∙ sym c.is-natural.ensures
+digits : (c : tie.After-is_natural) → is_natural (most c.before.before) (drop 1 (text c.before.before)) ≡ c.is_natural.result
+digits c = ap (is_natural (most c.before.before)) (sym (rest-is (text c.before.before) 1)) ∙ sym c.is_natural.ensures
 
-is_signed_requires : tie.Need-is-signed-requires
+is_signed_requires : tie.Need-is_signed-requires
 is_signed_requires c κs = search rules
 
-sub_digits : tie.Need-overflow-sub-digits
+sub_digits : tie.Need-slice_bounds-digits-count
 sub_digits c = long c
 
-part_digits_start : tie.Need-slice-bounds-digits-start
+part_digits_start : tie.Need-slice_bounds-digits-start
 part_digits_start c = long c
 
-part_digits_end : tie.Need-slice-bounds-digits-end
+part_digits_end : tie.Need-slice_bounds-digits-end
 part_digits_end c = search rules
 
-is_natural_requires : tie.Need-is-natural-requires
+is_natural_requires : tie.Need-is_natural-requires
 is_natural_requires c κs = search rules
 
-returns : tie.Need-returns
-returns c = sym (by_digits c.before.before.before false (digits c.before ∙ not-true c.before.is-natural.result c.if2.true))
+returns : tie.Need-returns-then-not-is_natural
+returns c = sym (by_digits c.before.before.before false (digits c.before ∙ not-true c.before.is_natural.result c.if-not-is_natural.true-raw))
 
 natural_requires : tie.Need-natural-requires
 natural_requires c κs =
     let t = c.before.before.before in
     let s = t.before.before.before in
-    let N = natural-parts (most t) _ (is_T (sym c.before.is-natural.ensures ∙ not-false c.before.is-natural.result c.if2.false)) in
+    let N = natural-parts (most t) _ (is_T (sym c.before.is_natural.ensures ∙ not-false c.before.is_natural.result c.if-not-is_natural.false-raw)) in
     (N.digits, omega (arith, N.most, s.requires))
 
-returns_2 : tie.Need-returns-2
+returns_2 : tie.Need-returns-then-is_signed
 returns_2 c =
     let e = c.before in
     let t = e.before.before.before in
     ap (λ (n : ℕ). not (eqb n 0)) (c.natural.ensures ∙ ap natural (rest-is (text t) 1))
-    ∙ sym (by_digits t true (digits e.before ∙ not-false e.before.is-natural.result e.if2.false))
+    ∙ sym (by_digits t true (digits e.before ∙ not-false e.before.is_natural.result e.if-not-is_natural.false-raw))
 
-is_natural_requires_2 : tie.Need-is-natural-requires-2
+is_natural_requires_2 : tie.Need-is_natural-requires-2
 is_natural_requires_2 c κs = search rules
 
-returns_3 : tie.Need-returns-3
-returns_3 c = c.is-natural2.ensures ∙ sym (number-plain c.before.before.before.before.args.most c.before.before.before.before.args.s.now (sym c.before.before.is_Signed.ensures ∙ c.before.if1.false))
+returns_3 : tie.Need-returns
+returns_3 c = c.is_natural-2.ensures ∙ sym (number-plain c.before.before.before.before.args.most c.before.before.before.before.args.s.now (sym c.before.before.is_signed.ensures ∙ c.before.if-is_signed.false))
 
 pub is_number_spec : {M : Type 1} → statement M
 is_number_spec =

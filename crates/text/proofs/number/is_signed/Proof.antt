@@ -15,13 +15,13 @@ unfolding is_signed
 empty [] h = refl
 empty (b ∷ s) h = absurd (omega arith)
 
-returns : tie.Need-returns
-returns c = sym (empty c.before.args.s.now c.if1.true)
+returns : tie.Need-returns-then-s-lt1
+returns c = sym (empty c.before.args.s.now c.if-s-lt1.true)
 
-shared_slice_read_result : tie.Need-shared-slice-read-result
+shared_slice_read_result : tie.Need-bounds-s-0
 shared_slice_read_result c = search rules
 
-returns_2 : tie.Need-returns-2
+returns_2 : tie.Need-returns
 unfolding is_signed
 returns_2 c = refl
 

@@ -15,65 +15,65 @@ use mathlib.Core.List.{List}
 use lib.Dec.{T}
 use Rattle.arithmetic.specs.TestLaws.{every-at}
 
-abbrev invariant-loop : tie.invariant-loop
+abbrev invariant-loop : tie.invariant-loop-i
 invariant-loop s n₀ i₀ n i = (i ≤ length s) × (natural s ≡ natural_from n (drop i s))
 
-abbrev decreases-loop : tie.decreases-loop
+abbrev decreases-loop : tie.decreases-loop-i
 decreases-loop s n₀ i₀ n i = length s - i
 
 -- in the loop
-module _ (c : tie.In-loop invariant-loop decreases-loop) where
+module _ (c : tie.In-loop-i invariant-loop decreases-loop) where
   abbrev text : List ℕ
   text = c.before.before.args.s.now
 
   abbrev place : ℕ
-  place = c.before.loop.i
+  place = c.before.loop-i.i
 
   abbrev sofar : ℕ
-  sofar = c.before.loop.n
+  sofar = c.before.loop-i.n
 
   -- the byte at the place is a digit
   here : T (is_digit (get_or text place 0))
-  here = every-at is_digit 0 text c.before.before.requires.0 place c.loop-test.true
+  here = every-at is_digit 0 text c.before.before.requires.0 place c.loop-i-test.true
 
   more : natural text ≡ natural_from (10 * sofar + (get_or text place 0 - digit 0)) (drop (place + 1) text)
-  more = c.before.loop.invariant.1 ∙ natural-next sofar text place c.loop-test.true
+  more = c.before.loop-i.invariant.1 ∙ natural-next sofar text place c.loop-i-test.true
 
   small : 10 * sofar + (get_or text place 0 - digit 0) < 10 ^ 18
   small = omega (arith, natural-most 18 text c.before.before.requires.1 c.before.before.requires.0, more, natural_from_grows (10 * sofar + (get_or text place 0 - digit 0)) (drop (place + 1) text))
 
-loop-holds : tie.Need-loop-init invariant-loop decreases-loop
+loop-holds : tie.Need-loop-i-init invariant-loop decreases-loop
 unfolding natural
 loop-holds c = (search rules, refl)
 
-mul_n : tie.Need-overflow-mul-n invariant-loop decreases-loop
+mul_n : tie.Need-overflow_mul-n invariant-loop decreases-loop
 mul_n c = omega (arith, small c)
 
-shared_slice_read_n : tie.Need-shared-slice-read-n invariant-loop decreases-loop
+shared_slice_read_n : tie.Need-bounds-s-i invariant-loop decreases-loop
 shared_slice_read_n c = search rules
 
-sub_n : tie.Need-overflow-sub-n invariant-loop decreases-loop
+sub_n : tie.Need-overflow_sub-n invariant-loop decreases-loop
 sub_n c = digit_low (get_or (text c.before) (place c.before) 0) (here c.before)
 
-cast_n : tie.Need-overflow-cast-n invariant-loop decreases-loop
+cast_n : tie.Need-overflow_cast-n invariant-loop decreases-loop
 cast_n c = omega (arith, small c.before)
 
-add_n : tie.Need-overflow-add-n invariant-loop decreases-loop
+add_n : tie.Need-overflow_add-n invariant-loop decreases-loop
 add_n c = omega (arith, small c.before)
 
-add_i : tie.Need-overflow-add-i invariant-loop decreases-loop
+add_i : tie.Need-overflow_add-i invariant-loop decreases-loop
 add_i c = search rules
 
-loop-less : tie.Need-loop-smaller invariant-loop decreases-loop
+loop-less : tie.Need-loop-i-smaller invariant-loop decreases-loop
 loop-less c = search rules
 
-loop-again : tie.Need-loop-preserved invariant-loop decreases-loop
+loop-again : tie.Need-loop-i-preserved invariant-loop decreases-loop
 loop-again c = (search rules, more c.before)
 
 returns : tie.Need-returns invariant-loop decreases-loop
 returns c =
     let l = c.before in
-    sym (l.loop.invariant.1 ∙ natural-end l.loop.n l.before.args.s.now l.loop.i c.loop-test.false)
+    sym (l.loop-i.invariant.1 ∙ natural-end l.loop-i.n l.before.args.s.now l.loop-i.i c.loop-i-test.false)
 
 pub natural_spec : {M : Type 1} → statement M
 natural_spec =

@@ -18,12 +18,12 @@ use Rattle.text.proofs.number.value.Statement.{statement}
 use Rattle.text.proofs.number.value.Tie as tie
 
 -- behind a minus
-module _ (c : tie.Then1) where
+module _ (c : tie.Then-is_signed) where
   abbrev text : List ℕ
   text = c.before.before.before.args.s.now
 
   signed : is_signed text ≡ true
-  signed = sym c.before.is_Signed.ensures ∙ c.if1.true
+  signed = sym c.before.is_signed.ensures ∙ c.if-is_signed.true
 
   long : 1 ≤ length text
   long = signed_long text signed
@@ -54,41 +54,41 @@ minus-most c =
     let N = digits c.before.before in
     omega (arith, minus c, natural-most 18 (drop 1 (text c.before.before)) N.most N.digits)
 
-plain : (c : tie.Else1) → is_signed c.before.before.before.args.s.now ≡ false
-plain c = sym c.before.is_Signed.ensures ∙ c.if1.false
+plain : (c : tie.Else-is_signed) → is_signed c.before.before.before.args.s.now ≡ false
+plain c = sym c.before.is_signed.ensures ∙ c.if-is_signed.false
 
-natural_of : (c : tie.Else1) → Natural most_digits c.before.before.before.args.s.now
+natural_of : (c : tie.Else-is_signed) → Natural most_digits c.before.before.before.args.s.now
 natural_of c =
     let s = c.before.before.before in
     natural-parts most_digits s.args.s.now (rw (number-plain most_digits s.args.s.now (plain c)) at s.requires)
 
-plain-most : (c : tie.After-natural2) → c.natural2.result < 10 ^ 18
+plain-most : (c : tie.After-natural-2) → c.natural-2.result < 10 ^ 18
 plain-most c =
     let N = natural_of c.before in
-    omega (arith, c.natural2.ensures, natural-most 18 c.before.before.before.before.args.s.now N.most N.digits)
+    omega (arith, c.natural-2.ensures, natural-most 18 c.before.before.before.before.args.s.now N.most N.digits)
 
-is_signed_requires : tie.Need-is-signed-requires
+is_signed_requires : tie.Need-is_signed-requires
 is_signed_requires c κs = search rules
 
-sub_natural : tie.Need-overflow-sub-natural
+sub_natural : tie.Need-slice_bounds-natural-count
 sub_natural c = long c
 
-part_natural_start : tie.Need-slice-bounds-natural-start
+part_natural_start : tie.Need-slice_bounds-natural-start
 part_natural_start c = long c
 
-part_natural_end : tie.Need-slice-bounds-natural-end
+part_natural_end : tie.Need-slice_bounds-natural-end
 part_natural_end c = search rules
 
 natural_requires : tie.Need-natural-requires
 natural_requires c κs = rw (rest-is (text c.before) 1) ((digits c.before).digits, (digits c.before).most)
 
-cast_result : tie.Need-overflow-cast-result
+cast_result : tie.Need-overflow_cast-result
 cast_result c = fits c.natural.result (minus-most c)
 
-sub_result : tie.Need-overflow-sub-result
+sub_result : tie.Need-overflow_sub-result
 sub_result c = below_fits c.natural.result (minus-most c)
 
-returns : tie.Need-returns
+returns : tie.Need-returns-then-is_signed
 returns c =
     let t = c.before.before in
     below_is c.natural.result (minus-most c) ∙ ap (λ (n : ℕ). neg_ℤ (pos n)) (minus c) ∙ sym (value-signed (text t) (signed t))
@@ -96,13 +96,13 @@ returns c =
 natural_requires_2 : tie.Need-natural-requires-2
 natural_requires_2 c κs = ((natural_of c).digits, (natural_of c).most)
 
-cast_result_2 : tie.Need-overflow-cast-result-2
-cast_result_2 c = fits c.natural2.result (plain-most c)
+cast_result_2 : tie.Need-overflow_cast-result-2
+cast_result_2 c = fits c.natural-2.result (plain-most c)
 
-returns_2 : tie.Need-returns-2
+returns_2 : tie.Need-returns
 returns_2 c =
     let e = c.before in
-    is c.natural2.result (plain-most c) ∙ ap pos c.natural2.ensures ∙ sym (value-plain e.before.before.before.args.s.now (plain e))
+    is c.natural-2.result (plain-most c) ∙ ap pos c.natural-2.ensures ∙ sym (value-plain e.before.before.before.args.s.now (plain e))
 
 pub value_spec : {M : Type 1} → statement M
 value_spec =

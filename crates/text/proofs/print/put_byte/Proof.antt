@@ -4,13 +4,13 @@ use borrow.Author.Rules.{rules}
 use Rattle.text.proofs.print.put_byte.Statement.{statement}
 use Rattle.text.proofs.print.put_byte.Tie as tie
 
-slice_write_out : tie.Need-slice-write-out
+slice_write_out : tie.Need-bounds-out-at
 slice_write_out c = search rules
 
-add_result : tie.Need-overflow-add-result
+add_result : tie.Need-overflow_add-result
 add_result c = search rules
 
-same_length : tie.Need-same-length
+same_length : tie.Need-shape_of-out
 same_length c = search rules
 
 returns : tie.Need-returns

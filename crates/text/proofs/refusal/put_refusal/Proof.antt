@@ -6,22 +6,19 @@ use borrow.Author.Rules.{rules}
 use Rattle.text.proofs.refusal.put_refusal.Statement.{statement}
 use Rattle.text.proofs.refusal.put_refusal.Tie as tie
 
-slice_aggregate_put_text : tie.Need-slice-aggregate-put-text
-slice_aggregate_put_text c = search rules
-
-put_text_requires : tie.Need-put-text-requires
+put_text_requires : tie.Need-put_text-at-requires
 put_text_requires c κs = search rules
 
-put_more_requires : tie.Need-put-more-requires
+put_more_requires : tie.Need-put_more-at-requires
 put_more_requires c κs = search rules
 
-put_more_requires_2 : tie.Need-put-more-requires-2
+put_more_requires_2 : tie.Need-put_more-at-requires-2
 put_more_requires_2 c κs = search rules
 
-put_byte_requires : tie.Need-put-byte-requires
+put_byte_requires : tie.Need-put_byte-requires
 put_byte_requires c κs = search rules
 
-same_length : tie.Need-same-length
+same_length : tie.Need-shape_of-out
 same_length c = search rules
 
 returns : tie.Need-returns
@@ -31,15 +28,14 @@ returns c =
     let m = l.before.before.before.before in
     let w = m.before.before.before.before in
     let s = w.before.before.before.before in (
-      rw (refusal_is s.args.code s.args.line) at (put_then (put_then (put_then w.put-text.ensures m.put_more.ensures.0) l.put-more2.ensures.0) e.put_byte.ensures),
-      omega (arith, w.put-text.ensures.behind, m.put_more.ensures.1, l.put-more2.ensures.1, e.put_byte.ensures.behind),
+      rw (refusal_is s.args.code s.args.line) at (put_then (put_then (put_then w.put_text-at.ensures m.put_more-at.ensures.0) l.put_more-at-2.ensures.0) e.put_byte.ensures),
+      omega (arith, w.put_text-at.ensures.behind, m.put_more-at.ensures.1, l.put_more-at-2.ensures.1, e.put_byte.ensures.behind),
     )
 
 pub put_refusal_spec : {M : Type 1} → statement M
 put_refusal_spec =
     tie.close
     (tie.spec
-    slice_aggregate_put_text
     put_text_requires
     put_more_requires
     put_more_requires_2

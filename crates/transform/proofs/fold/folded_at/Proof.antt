@@ -9,31 +9,31 @@ use borrow.Author.Rules.{rules}
 use Rattle.transform.proofs.fold.folded_at.Statement.{statement}
 use Rattle.transform.proofs.fold.folded_at.Tie as tie
 
-sub_negated_sum : tie.Need-overflow-sub-negated-sum
+sub_negated_sum : tie.Need-overflow_sub-h
 sub_negated_sum c = search rules
 
-sub_negated_sum_2 : tie.Need-overflow-sub-negated-sum-2
+sub_negated_sum_2 : tie.Need-overflow_sub-h-then-j-h
 sub_negated_sum_2 c = search rules
 
-add_negated_sum : tie.Need-overflow-add-negated-sum
+add_negated_sum : tie.Need-overflow_add-h
 add_negated_sum c = search rules
 
-negated_sum_requires : tie.Need-negated-sum-requires
+negated_sum_requires : tie.Need-negated_sum-requires
 negated_sum_requires c κs = search rules
 
-mul_difference : tie.Need-overflow-mul-difference
+mul_difference : tie.Need-overflow_mul-h
 mul_difference c = search rules
 
-sub_difference : tie.Need-overflow-sub-difference
+sub_difference : tie.Need-overflow_sub-h-else-j-h
 sub_difference c = search rules
 
-sub_difference_2 : tie.Need-overflow-sub-difference-2
+sub_difference_2 : tie.Need-overflow_sub-h-else-j-h-2
 sub_difference_2 c = search rules
 
 difference_requires : tie.Need-difference-requires
 difference_requires c κs = search rules
 
-returns : tie.Need-returns
+returns : tie.Need-returns-then-j-h
 returns c =
     let a = c.before.before.args in
     let q = c.before.before.requires in
@@ -41,14 +41,14 @@ returns c =
     let j = a.j in
     let lo : m + (m / 2 - 1 - j) ≡ 3 * (m / 2) - 1 - j = omega arith in
     let hi : m + (m / 2 + j) ≡ 3 * (m / 2) + j = omega arith in
-    rw (to_z-of_z {w = w32} {z = c.negated-sum.result} (record { sfits = c.negated-sum.type-inv }))
-    (c.negated-sum.ensures.0 ∙ rw (lo, hi) (folded-lower m a.rise.now a.fall.now a.x.now j q.1.1.0 (omega arith)), c.negated-sum.ensures.1)
+    rw (to_z-of_z {w = w32} {z = c.negated_sum.result} (record { sfits = c.negated_sum.type_inv }))
+    (c.negated_sum.ensures.0 ∙ rw (lo, hi) (folded-lower m a.rise.now a.fall.now a.x.now j q.1.1.0 (omega arith)), c.negated_sum.ensures.1)
 
-returns_2 : tie.Need-returns-2
+returns_2 : tie.Need-returns-else-j-h
 returns_2 c =
     let a = c.before.before.args in
     let q = c.before.before.requires in
-    rw (to_z-of_z {w = w32} {z = c.difference.result} (record { sfits = c.difference.type-inv }))
+    rw (to_z-of_z {w = w32} {z = c.difference.result} (record { sfits = c.difference.type_inv }))
     (c.difference.ensures.0 ∙ folded_upper a.m a.rise.now a.fall.now a.x.now a.j q.1.1.0 (omega arith) q.1.1.1, c.difference.ensures.1)
 
 pub folded_at_spec : {M : Type 1} → statement M

@@ -81,25 +81,25 @@ module _ (c : tie.Start) where
   shifted : to_z w64 (of_z w64 (shr_z total (2 ^ 34))) ≡ rnd (w *ℤ x) (2 ^ 18)
   shifted = to_z-of_z (sfits_shr total (2 ^ 34) total-fits) ∙ floor_shr total (2 ^ 34) ∙ is
 
-cast_result : tie.Need-overflow-cast-result
+cast_result : tie.Need-overflow_cast-result
 cast_result c = rw (to_z-of_z c.ranges.w) (w_fits c)
 
-mul_result : tie.Need-overflow-mul-result
+mul_result : tie.Need-overflow_mul-result
 mul_result c = rw (w-is c) (large-fits c)
 
-add_result : tie.Need-overflow-add-result
+add_result : tie.Need-overflow_add-result
 add_result c = rw (w-is c, to_z-of_z (large-fits c)) (beside-fits c)
 
-cast_result_2 : tie.Need-overflow-cast-result-2
+cast_result_2 : tie.Need-overflow_cast-result-2
 cast_result_2 c = rw (to_z-of_z c.ranges.x) (x_fits c)
 
-mul_result_2 : tie.Need-overflow-mul-result-2
+mul_result_2 : tie.Need-overflow_mul-result-2
 mul_result_2 c = rw (w-is c, to_z-of_z (large-fits c), to_z-of_z (beside-fits c), x-is c) (product-fits c)
 
-add_result_2 : tie.Need-overflow-add-result-2
+add_result_2 : tie.Need-overflow_add-result-2
 add_result_2 c = rw (w-is c, to_z-of_z (large-fits c), to_z-of_z (beside-fits c), x-is c, to_z-of_z (product-fits c)) (total-fits c)
 
-cast_result_3 : tie.Need-overflow-cast-result-3
+cast_result_3 : tie.Need-overflow_cast-result-3
 cast_result_3 c = rw (w-is c, to_z-of_z (large-fits c), to_z-of_z (beside-fits c), x-is c, to_z-of_z (product-fits c), to_z-of_z (total-fits c), shifted c) (fits c)
 
 returns : tie.Need-returns

@@ -22,10 +22,10 @@ use Rattle.transform.proofs.sums.column.Tie as tie
 abbrev term : List ℤ → List ℤ → ℕ → ℕ → ℤ
 term z rows k j = at z j *ℤ at rows (j * length z + k)
 
-abbrev invariant-loop : tie.invariant-loop
+abbrev invariant-loop : tie.invariant-loop-j
 invariant-loop z rows k m acc₀ j₀ acc j = (j ≤ length z) × (to_z w64 acc ≡ sum j (term z rows k))
 
-abbrev decreases-loop : tie.decreases-loop
+abbrev decreases-loop : tie.decreases-loop-j
 decreases-loop z rows k m acc₀ j₀ acc j = length z - j
 
 -- any part of the sum is below 2^63
@@ -57,32 +57,32 @@ module _ (c : tie.Start invariant-loop decreases-loop) where
   part-fits : (j : ℕ) → j ≤ length z → SFits w64 (sum j (term z rows k))
   part-fits j p = sfits_abs (sum j (term z rows k)) (omega (arith, part_abs j p))
 
-loop-holds : tie.Need-loop-init invariant-loop decreases-loop
+loop-holds : tie.Need-loop-j-init invariant-loop decreases-loop
 loop-holds c = (omega arith, sym (sum-zero _))
 
-mul_product : tie.Need-overflow-mul-product invariant-loop decreases-loop
+mul_product : tie.Need-offset_bounds-z-j invariant-loop decreases-loop
 mul_product c = omega arith
 
-shared_slice_copy_out_product : tie.Need-shared-slice-copy-out-product invariant-loop decreases-loop
+shared_slice_copy_out_product : tie.Need-bounds-z-j invariant-loop decreases-loop
 shared_slice_copy_out_product c = omega arith
 
-mul_product_2 : tie.Need-overflow-mul-product-2 invariant-loop decreases-loop
-mul_product_2 c = let l = c.before.before in omega (arith, in_rows l.before l.loop.j (omega arith), most l.before, l.before.requires.0)
+mul_product_2 : tie.Need-overflow_mul-j invariant-loop decreases-loop
+mul_product_2 c = let l = c.before.before in omega (arith, in_rows l.before l.loop-j.j (omega arith), most l.before, l.before.requires.0)
 
-add_product : tie.Need-overflow-add-product invariant-loop decreases-loop
-add_product c = let l = c.before.before in omega (arith, in_rows l.before l.loop.j (omega arith), most l.before, l.before.requires.0)
+add_product : tie.Need-overflow_add-j invariant-loop decreases-loop
+add_product c = let l = c.before.before in omega (arith, in_rows l.before l.loop-j.j (omega arith), most l.before, l.before.requires.0)
 
-mul_product_3 : tie.Need-overflow-mul-product-3 invariant-loop decreases-loop
-mul_product_3 c = let l = c.before.before in omega (arith, in_rows l.before l.loop.j (omega arith), most l.before, l.before.requires.0)
+mul_product_3 : tie.Need-offset_bounds-rows-j invariant-loop decreases-loop
+mul_product_3 c = let l = c.before.before in omega (arith, in_rows l.before l.loop-j.j (omega arith), most l.before, l.before.requires.0)
 
-shared_slice_copy_out_product_2 : tie.Need-shared-slice-copy-out-product-2 invariant-loop decreases-loop
-shared_slice_copy_out_product_2 c = let l = c.before.before in in_rows l.before l.loop.j (omega arith)
+shared_slice_copy_out_product_2 : tie.Need-bounds-rows-j invariant-loop decreases-loop
+shared_slice_copy_out_product_2 c = let l = c.before.before in in_rows l.before l.loop-j.j (omega arith)
 
-product_requires : tie.Need-product-requires invariant-loop decreases-loop
+product_requires : tie.Need-product-acc-requires invariant-loop decreases-loop
 product_requires c κs =
     let l = c.before.before.before in
     let s = l.before in
-    let j = l.loop.j in
+    let j = l.loop-j.j in
     let p : j < length (z s) = omega arith in (
       rw (to_z-of_z {w = w32} (sfits_abs (at (z s) j) (omega (arith, s.requires.1.1.1.0.size j p)))) (s.requires.1.1.1.0.sign j p),
       rw (to_z-of_z {w = w32} (sfits_abs (at (rows s) (j * length (z s) + k s)) (omega (arith, s.requires.1.1.1.1.size (j * length (z s) + k s) (in_rows s j p)))))
@@ -90,32 +90,32 @@ product_requires c κs =
     )
 
 -- the sum with the next product
-more : (c : tie.After-product invariant-loop decreases-loop) → let l = c.before.before.before.before in
-    to_z w64 l.loop.acc +ℤ to_z w64 (of_z w64 c.product.result) ≡ sum (l.loop.j + 1) (term (z l.before) (rows l.before) (k l.before))
+more : (c : tie.After-product-acc invariant-loop decreases-loop) → let l = c.before.before.before.before in
+    to_z w64 l.loop-j.acc-bits +ℤ to_z w64 (of_z w64 c.product-acc.result) ≡ sum (l.loop-j.j + 1) (term (z l.before) (rows l.before) (k l.before))
 more c =
     let l = c.before.before.before.before in
-    let p : c.product.result ≡ term (z l.before) (rows l.before) (k l.before) l.loop.j = c.product.ensures ∙ search rules in
-    rw (l.loop.invariant.1, to_z-of_z {w = w64} (record { sfits = c.product.type-inv }), p) (sym (sum-next l.loop.j (term (z l.before) (rows l.before) (k l.before))))
+    let p : c.product-acc.result ≡ term (z l.before) (rows l.before) (k l.before) l.loop-j.j = c.product-acc.ensures ∙ search rules in
+    rw (l.loop-j.invariant.1, to_z-of_z {w = w64} (record { sfits = c.product-acc.type_inv }), p) (sym (sum-next l.loop-j.j (term (z l.before) (rows l.before) (k l.before))))
 
-more-fits : (c : tie.After-product invariant-loop decreases-loop) → let l = c.before.before.before.before in
-    SFits w64 (sum (l.loop.j + 1) (term (z l.before) (rows l.before) (k l.before)))
-more-fits c = let l = c.before.before.before.before in part-fits l.before (l.loop.j + 1) (omega arith)
+more-fits : (c : tie.After-product-acc invariant-loop decreases-loop) → let l = c.before.before.before.before in
+    SFits w64 (sum (l.loop-j.j + 1) (term (z l.before) (rows l.before) (k l.before)))
+more-fits c = let l = c.before.before.before.before in part-fits l.before (l.loop-j.j + 1) (omega arith)
 
-add_acc : tie.Need-overflow-add-acc invariant-loop decreases-loop
+add_acc : tie.Need-overflow_add-acc invariant-loop decreases-loop
 add_acc c = rw (more c) (more-fits c)
 
-add_j : tie.Need-overflow-add-j invariant-loop decreases-loop
+add_j : tie.Need-overflow_step-j invariant-loop decreases-loop
 add_j c = omega arith
 
-loop-less : tie.Need-loop-smaller invariant-loop decreases-loop
+loop-less : tie.Need-loop-j-smaller invariant-loop decreases-loop
 loop-less c = omega arith
 
-loop-again : tie.Need-loop-preserved invariant-loop decreases-loop
+loop-again : tie.Need-loop-j-preserved invariant-loop decreases-loop
 loop-again c = (omega arith, rw (more c) (to_z-of_z (more-fits c)))
 
 returns : tie.Need-returns invariant-loop decreases-loop
 unfolding raised
-returns c = let e : c.before.loop.j ≡ length c.before.before.args.z.now = omega arith in rw e at c.before.loop.invariant.1
+returns c = let e : c.before.loop-j.j ≡ length c.before.before.args.z.now = omega arith in rw e at c.before.loop-j.invariant.1
 
 pub column_spec : {M : Type 1} → statement M
 column_spec =

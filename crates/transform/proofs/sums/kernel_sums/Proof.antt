@@ -26,7 +26,7 @@ module _ (c : tie.After-lift) where
   rows = c.before.before.args.rows.now
 
   abbrev z : List ℤ
-  z = c.lift.new.1.0
+  z = c.lift.new.z
 
   z-is : z ≡ lifted x
   z-is = c.lift.ensures
@@ -45,16 +45,16 @@ module _ (c : tie.After-lift) where
 
 columns_requires : tie.Need-columns-requires
 columns_requires c κs =
-    let f = c.before.before.before in
-    (rows-length f, (f.before.before.requires.1.1.second ∙ sym (z-length f), (most f, (z-lifted f, rows-lifted f.before.before.requires.0))))
+    let f = c.before.before in
+    (rows-length f, (f.before.requires.1.1.second ∙ sym (z-length f), (most f, (z-lifted f, rows-lifted f.before.before.requires.0))))
 
 -- the sums, as `columns` leaves them
 module _ (c : tie.After-columns) where
   abbrev f : tie.After-lift
-  f = c.before.before.before.before
+  f = c.before.before.before
 
   abbrev t : List ℤ
-  t = c.columns.new.1.1.0
+  t = c.columns.new.t
 
   t-is : t ≡ table (length (z f)) (raised (z f) (rows f))
   t-is = c.columns.ensures
@@ -63,23 +63,23 @@ module _ (c : tie.After-columns) where
   t-length = ap length t-is ∙ length-table (raised (z f) (rows f)) (length (z f))
 
   t_small : Small t (36 * 2 ^ 57)
-  t_small = rw t-is (raised_small (z f) (rows f) (rows-length f) (most f) (z-lifted f) (rows-lifted f.before.before.pre.0))
+  t_small = rw t-is (raised_small (z f) (rows f) (rows-length f) (most f) (z-lifted f) (rows-lifted f.before.before.requires.0))
 
 lower_requires : tie.Need-lower-requires
 lower_requires c κs =
-    let g = c.before.before.before in
+    let g = c.before.before in
     let q = (f g).before.before.requires in (base_long q.0 ∙ sym (z-length (f g)), (t-length g, (most (f g), (record { small = λ i p. (z-lifted (f g)).size i p }, t_small g))))
 
-same_length : tie.Need-same-length
+same_length : tie.Need-shape_of-z
 same_length c = search rules
 
-same_length_2 : tie.Need-same-length-2
+same_length_2 : tie.Need-shape_of-t
 same_length_2 c = search rules
 
 returns : tie.Need-returns
 unfolding summed
 returns c =
-    let g = c.before.before.before.before.before in
+    let g = c.before.before.before.before in
     let a = (f g).before.before.args in
     c.before.lower.ensures
     ∙ ap (λ (u : List ℤ). table (length (z (f g))) (lowered (z (f g)) a.base.now u)) (t-is g)

@@ -37,19 +37,19 @@ module _ (c : tie.Start) where
       sfits_abs (sum -ℤ all -ℤ pos (2 ^ 29) *ℤ base)
       (omega (arith, abs_sub (sum -ℤ all) (pos (2 ^ 29) *ℤ base), abs_sub sum all, part_abs, c.requires.0, c.requires.1))
 
-sub_result : tie.Need-overflow-sub-result
+sub_result : tie.Need-overflow_sub-result
 sub_result c = rw (to_z-of_z c.ranges.sum, to_z-of_z c.ranges.all) (first c)
 
-cast_result : tie.Need-overflow-cast-result
+cast_result : tie.Need-overflow_cast-result
 cast_result c = search rules
 
-cast_result_2 : tie.Need-overflow-cast-result-2
+cast_result_2 : tie.Need-overflow_cast-result-2
 cast_result_2 c = rw (to_z-of_z c.ranges.base) (wide c)
 
-mul_result : tie.Need-overflow-mul-result
+mul_result : tie.Need-overflow_mul-result
 mul_result c = rw (to_z-of_z c.ranges.base, to_z-of_z (wide c)) (part c)
 
-sub_result_2 : tie.Need-overflow-sub-result-2
+sub_result_2 : tie.Need-overflow_sub-result-2
 sub_result_2 c = rw (to_z-of_z c.ranges.sum, to_z-of_z c.ranges.all, to_z-of_z (first c), to_z-of_z c.ranges.base, to_z-of_z (wide c), to_z-of_z (part c)) (whole c)
 
 returns : tie.Need-returns

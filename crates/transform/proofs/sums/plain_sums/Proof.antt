@@ -10,7 +10,7 @@ use Rattle.transform.specs.Stages.{sums_of}
 use Rattle.transform.proofs.sums.plain_sums.Statement.{statement}
 use Rattle.transform.proofs.sums.plain_sums.Tie as tie
 
-plain_columns_requires : tie.Need-plain-columns-requires
+plain_columns_requires : tie.Need-plain_columns-requires
 plain_columns_requires c κs =
     let s = c.before in
     let q = s.requires in
@@ -19,7 +19,7 @@ plain_columns_requires c κs =
       (q.1.1.1 ∙ sym i.long, (omega (arith, i.long, q.1.0), (record { small = λ j p. omega (arith, i.small.small j p) }, rw q.1.1.0 (lift-is s.args.n)))),
     )
 
-same_length : tie.Need-same-length
+same_length : tie.Need-shape_of-t
 same_length c = search rules
 
 returns : tie.Need-returns
@@ -27,7 +27,7 @@ returns c =
     let s = c.before.before.before in
     let a = s.args in
     let i = s.requires.0 in
-    sums_of a.n a.x.now c.before.plain-columns.new.1.1.0 i (c.before.plain-columns.ensures ∙ folds-plain a.n a.x.now a.rows.now i.long s.requires.1.1.0)
+    sums_of a.n a.x.now c.before.plain_columns.new.t i (c.before.plain_columns.ensures ∙ folds-plain a.n a.x.now a.rows.now i.long s.requires.1.1.0)
 
 pub plain_sums_spec : {M : Type 1} → statement M
 plain_sums_spec = tie.close (tie.spec plain_columns_requires same_length returns)

@@ -29,22 +29,22 @@ module _ (c : tie.Start) where
   is : pos (nat_abs a * nat_abs b) ≡ a *ℤ b
   is = ap₂ (λ (x y : ℤ). x *ℤ y) (pos-nat_abs a (yes_non_neg c.requires.0)) (pos-nat_abs b (yes_non_neg c.requires.1))
 
-cast_result : tie.Need-overflow-cast-result
+cast_result : tie.Need-overflow_cast-result
 cast_result c = rw (to_z-of_z c.ranges.a) (yes_non_neg c.requires.0, record { fits = omega (arith, abs_sfits c.ranges.a) })
 
-cast_result_2 : tie.Need-overflow-cast-result-2
+cast_result_2 : tie.Need-overflow_cast-result-2
 cast_result_2 c = rw (to_z-of_z c.ranges.a) (record { fits = omega (arith, abs_sfits c.ranges.a) })
 
-cast_result_3 : tie.Need-overflow-cast-result-3
+cast_result_3 : tie.Need-overflow_cast-result-3
 cast_result_3 c = rw (to_z-of_z c.ranges.b) (yes_non_neg c.requires.1, record { fits = omega (arith, abs_sfits c.ranges.b) })
 
-cast_result_4 : tie.Need-overflow-cast-result-4
+cast_result_4 : tie.Need-overflow_cast-result-4
 cast_result_4 c = rw (to_z-of_z c.ranges.b) (record { fits = omega (arith, abs_sfits c.ranges.b) })
 
-mul_result : tie.Need-overflow-mul-result
+mul_result : tie.Need-overflow_mul-result
 mul_result c = rw (to_z-of_z c.ranges.a, to_z-of_z c.ranges.b) (record { fits = omega (arith, most c) })
 
-cast_result_5 : tie.Need-overflow-cast-result-5
+cast_result_5 : tie.Need-overflow_cast-result-5
 cast_result_5 c = rw (to_z-of_z c.ranges.a, to_z-of_z c.ranges.b) (fits c)
 
 returns : tie.Need-returns

@@ -31,16 +31,16 @@ module _ (c : tie.Start) where
   product-fits : SFits w64 (a *ℤ (b -ℤ pos (2 ^ 26)))
   product-fits = sfits_abs (a *ℤ (b -ℤ pos (2 ^ 26))) (omega (arith, abs_mul_le a (b -ℤ pos (2 ^ 26)) (abs_sfits c.ranges.a) less_abs))
 
-cast_result : tie.Need-overflow-cast-result
+cast_result : tie.Need-overflow_cast-result
 cast_result c = rw (to_z-of_z c.ranges.a) (wide-a c)
 
-cast_result_2 : tie.Need-overflow-cast-result-2
+cast_result_2 : tie.Need-overflow_cast-result-2
 cast_result_2 c = rw (to_z-of_z c.ranges.b) (wide-b c)
 
-sub_result : tie.Need-overflow-sub-result
+sub_result : tie.Need-overflow_sub-result
 sub_result c = rw (to_z-of_z c.ranges.b, to_z-of_z (wide-b c)) (less-fits c)
 
-mul_result : tie.Need-overflow-mul-result
+mul_result : tie.Need-overflow_mul-result
 mul_result c = rw (to_z-of_z c.ranges.a, to_z-of_z (wide-a c), to_z-of_z c.ranges.b, to_z-of_z (wide-b c), to_z-of_z (less-fits c)) (product-fits c)
 
 returns : tie.Need-returns

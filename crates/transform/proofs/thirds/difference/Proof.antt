@@ -19,15 +19,15 @@ module _ (s : tie.Start) where
   c = s.args.c
 
   two_fits : SFits w32 (a -ℤ b)
-  two_fits = sfits_abs (a -ℤ b) (omega (arith, abs_sub a b, s.pre.0, s.pre.1.0))
+  two_fits = sfits_abs (a -ℤ b) (omega (arith, abs_sub a b, s.requires.0, s.requires.1.0))
 
   three-fits : SFits w32 (a -ℤ b -ℤ c)
-  three-fits = sfits_abs (a -ℤ b -ℤ c) (omega (arith, abs_sub (a -ℤ b) c, abs_sub a b, s.pre.0, s.pre.1.0, s.pre.1.1))
+  three-fits = sfits_abs (a -ℤ b -ℤ c) (omega (arith, abs_sub (a -ℤ b) c, abs_sub a b, s.requires.0, s.requires.1.0, s.requires.1.1))
 
-sub_result : tie.Need-overflow-sub-result
+sub_result : tie.Need-overflow_sub-result
 sub_result s = rw (to_z-of_z s.ranges.a, to_z-of_z s.ranges.b) (two_fits s)
 
-sub_result_2 : tie.Need-overflow-sub-result-2
+sub_result_2 : tie.Need-overflow_sub-result-2
 sub_result_2 s = rw (to_z-of_z s.ranges.a, to_z-of_z s.ranges.b, to_z-of_z (two_fits s), to_z-of_z s.ranges.c) (three-fits s)
 
 returns : tie.Need-returns

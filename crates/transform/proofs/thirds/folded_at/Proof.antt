@@ -14,37 +14,37 @@ use Rattle.transform.specs.ThirdLaws.{folded_three}
 use Rattle.transform.proofs.thirds.folded_at.Statement.{statement}
 use Rattle.transform.proofs.thirds.folded_at.Tie as tie
 
-mul_difference : tie.Need-overflow-mul-difference
+mul_difference : tie.Need-offset_bounds-x-i
 mul_difference c = search rules
 
-shared_slice_copy_out_difference : tie.Need-shared-slice-copy-out-difference
+shared_slice_copy_out_difference : tie.Need-bounds-x-i
 shared_slice_copy_out_difference c = search rules
 
-mul_difference_2 : tie.Need-overflow-mul-difference-2
+mul_difference_2 : tie.Need-overflow_mul-h
 mul_difference_2 c = search rules
 
-sub_difference : tie.Need-overflow-sub-difference
+sub_difference : tie.Need-overflow_sub-h
 sub_difference c = search rules
 
-sub_difference_2 : tie.Need-overflow-sub-difference-2
+sub_difference_2 : tie.Need-overflow_sub-h-2
 sub_difference_2 c = search rules
 
-mul_difference_3 : tie.Need-overflow-mul-difference-3
+mul_difference_3 : tie.Need-offset_bounds-x-h
 mul_difference_3 c = search rules
 
-shared_slice_copy_out_difference_2 : tie.Need-shared-slice-copy-out-difference-2
+shared_slice_copy_out_difference_2 : tie.Need-bounds-x-h
 shared_slice_copy_out_difference_2 c = search rules
 
-mul_difference_4 : tie.Need-overflow-mul-difference-4
+mul_difference_4 : tie.Need-overflow_mul-h-2
 mul_difference_4 c = search rules
 
-add_difference : tie.Need-overflow-add-difference
+add_difference : tie.Need-overflow_add-h
 add_difference c = search rules
 
-mul_difference_5 : tie.Need-overflow-mul-difference-5
+mul_difference_5 : tie.Need-offset_bounds-x-h-2
 mul_difference_5 c = search rules
 
-shared_slice_copy_out_difference_3 : tie.Need-shared-slice-copy-out-difference-3
+shared_slice_copy_out_difference_3 : tie.Need-bounds-x-h-2
 shared_slice_copy_out_difference_3 c = search rules
 
 -- the number at a place, as the machine has it
@@ -53,7 +53,7 @@ module _ (s : tie.Start) where
   x = at s.args.x.now
 
   small : (i : ℕ) → i < 3 * s.args.h → nat_abs (x i) ≤ 2 ^ 29
-  small i p = s.pre.1.1.small i (rw s.pre.0 p)
+  small i p = s.requires.1.1.small i (rw s.requires.0 p)
 
   read : (i : ℕ) → i < 3 * s.args.h → to_z w32 (of_z w32 (x i)) ≡ x i
   read i p = to_z-of_z {w = w32} (sfits_abs (x i) (omega (arith, small i p)))
@@ -74,7 +74,7 @@ returns c =
     let s = c.before.before.before.before in
     let h = s.args.h in
     let i = s.args.i in
-    to_z-of_z {w = w32} {z = c.difference.result} (record { sfits = c.difference.type-inv })
+    to_z-of_z {w = w32} {z = c.difference.result} (record { sfits = c.difference.type_inv })
     ∙ c.difference.ensures
     ∙ rw (read s i (omega (arith, s.requires.1.0)), read s (2 * h - 1 - i) (omega (arith, s.requires.1.0)), read s (2 * h + i) (omega (arith, s.requires.1.0)))
 

@@ -17,9 +17,9 @@ returns : tie.Need-returns
 returns c =
     let f = c.before in
     let s = f.before in
-    to_z-of_z {w = w64} {z = c.total.result} (record { sfits = c.total.type-inv })
+    to_z-of_z {w = w64} {z = c.total.result} (record { sfits = c.total.type_inv })
     ∙ c.total.ensures
-    ∙ ap₂ (λ (a b : ℤ). a +ℤ b) (to_z-of_z s.ranges.s) (to_z-of_z {w = w64} (record { sfits = f.continued.type-inv }) ∙ f.continued.ensures.0)
+    ∙ ap₂ (λ (a b : ℤ). a +ℤ b) (to_z-of_z s.ranges.s) (to_z-of_z {w = w64} (record { sfits = f.continued.type_inv }) ∙ f.continued.ensures.0)
 
 pub joined_spec : {M : Type 1} → statement M
 joined_spec = tie.close (tie.spec continued_requires total_requires returns)

@@ -13,13 +13,13 @@ use Rattle.transform.specs.ThirdLaws.{folded_three, folded_small, half_is, sixth
 use Rattle.transform.proofs.thirds.middle_sums.Statement.{statement}
 use Rattle.transform.proofs.thirds.middle_sums.Tie as tie
 
-fold_three_requires : tie.Need-fold-three-requires
+fold_three_requires : tie.Need-fold_three-requires
 fold_three_requires c κs =
     let s = c.before in
     let q = s.requires in (q.0.input.long ∙ half_is s.args.n q.0.six s.args.x.now ∙ ap (λ (m : ℕ). 3 * m) (sym q.1.1.first), q.0.input.small)
 
 -- the folded inputs, as `fold_three` leaves them
-module _ (c : tie.After-fold-three) where
+module _ (c : tie.After-fold_three) where
   abbrev s : tie.Start
   s = c.before.before
 
@@ -30,37 +30,37 @@ module _ (c : tie.After-fold-three) where
   x = s.args.x.now
 
   abbrev w : List ℤ
-  w = c.fold-three.new.1.0
+  w = c.fold_three.new.w
 
   w-is : w ≡ table (n / 6) (folded_three (n / 6) x)
-  w-is = c.fold-three.ensures ∙ ap (λ (m : ℕ). table m (folded_three m x)) s.pre.1.1.first
+  w-is = c.fold_three.ensures ∙ ap (λ (m : ℕ). table m (folded_three m x)) s.requires.1.1.first
 
   w-length : length w ≡ n / 6
   w-length = ap length w-is ∙ length-table (folded_three (n / 6) x) (n / 6)
 
   w_small : Small w (3 * 2 ^ 29)
-  w_small = folded_small n s.pre.0.six x w s.pre.0.input w-is
+  w_small = folded_small n s.requires.0.six x w s.requires.0.input w-is
 
-plain_columns_requires : tie.Need-plain-columns-requires
+plain_columns_requires : tie.Need-plain_columns-requires
 plain_columns_requires c κs =
-    let f = c.before.before.before in
+    let f = c.before.before in
     let q = (s f).requires in
     let l : length (w f) ≡ n f / 3 / 2 = w-length f ∙ sym (sixth-is (n f) q.0.six (x f)) in (
       ap length q.1.0 ∙ lift-length (n f / 3) ∙ sym (ap₂ (λ (a b : ℕ). a * b) l l),
       (q.1.1.second ∙ sym (w-length f), (omega (arith, w-length f, q.0.six.few), (w_small f, rw q.1.0 (lift-is (n f / 3))))),
     )
 
-same_length : tie.Need-same-length
+same_length : tie.Need-shape_of-w
 same_length c = search rules
 
-same_length_2 : tie.Need-same-length-2
+same_length_2 : tie.Need-shape_of-t
 same_length_2 c = search rules
 
 returns : tie.Need-returns
 returns c =
     let g = c.before in
-    let f = g.before.before.before.before in
-    g.plain-columns.ensures ∙ middles_are (n f) (s f).requires.0.six (x f) (w f) (s f).args.rows.now (w-is f) (s f).requires.1.0
+    let f = g.before.before.before in
+    g.plain_columns.ensures ∙ middles_are (n f) (s f).requires.0.six (x f) (w f) (s f).args.rows.now (w-is f) (s f).requires.1.0
 
 pub middle_sums_spec : {M : Type 1} → statement M
 middle_sums_spec = tie.close (tie.spec fold_three_requires plain_columns_requires same_length same_length_2 returns)

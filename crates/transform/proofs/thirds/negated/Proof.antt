@@ -14,12 +14,12 @@ module _ (s : tie.Start) where
   a = s.args.a
 
   is : pos 0 -ℤ to_z w64 (of_z w64 a) ≡ neg_ℤ a
-  is = rw (to_z-of_z s.fits.a) (+ℤ_idl (neg_ℤ a))
+  is = rw (to_z-of_z s.ranges.a) (+ℤ_idl (neg_ℤ a))
 
   fits : SFits w64 (neg_ℤ a)
-  fits = sfits_abs (neg_ℤ a) (rw (abs_neg a) (omega (arith, s.pre)))
+  fits = sfits_abs (neg_ℤ a) (rw (abs_neg a) (omega (arith, s.requires)))
 
-sub_result : tie.Need-overflow-sub-result
+sub_result : tie.Need-overflow_sub-result
 sub_result s = rw (is s) (fits s)
 
 returns : tie.Need-returns

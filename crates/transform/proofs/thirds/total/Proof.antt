@@ -11,7 +11,7 @@ use Rattle.transform.proofs.thirds.total.Tie as tie
 fits : (s : tie.Start) → SFits w64 (s.args.a +ℤ s.args.b)
 fits s = sfits_abs (s.args.a +ℤ s.args.b) (omega (arith, abs_add s.args.a s.args.b, s.requires.0, s.requires.1))
 
-add_result : tie.Need-overflow-add-result
+add_result : tie.Need-overflow_add-result
 add_result s = rw (to_z-of_z s.ranges.a, to_z-of_z s.ranges.b) (fits s)
 
 returns : tie.Need-returns

@@ -9,7 +9,7 @@ use Rattle.arithmetic.specs.OrderLaws.{signs, sfits_abs, abs_mul_le}
 use Rattle.transform.proofs.unfold.weighted.Statement.{statement}
 use Rattle.transform.proofs.unfold.weighted.Tie as tie
 
-cast_result : tie.Need-overflow-cast-result
+cast_result : tie.Need-overflow_cast-result
 cast_result c = search signs
 
 -- the product, as the machine has it
@@ -20,7 +20,7 @@ module _ (c : tie.Start) where
   factor : to_z w64 (of_z w64 (to_z w32 (of_z w32 c.args.w))) ≡ c.args.w
   factor = rw (to_z-of_z c.ranges.w) (to_z-of_z (sfits_widen {w = w32} {w' = w64} tt c.ranges.w))
 
-mul_result : tie.Need-overflow-mul-result
+mul_result : tie.Need-overflow_mul-result
 mul_result c = rw (factor c, to_z-of_z c.ranges.u) (product-fits c)
 
 returns : tie.Need-returns
