@@ -9,5 +9,4 @@ pub mod BankLaws
 pub mod SizeLaws
 pub mod BlockLaws
 pub mod StepLaws
-pub mod OutputLaws
 pub mod Examples

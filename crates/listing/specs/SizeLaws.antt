@@ -74,19 +74,19 @@ fields-most [] h = omega arith
 fields-most (x ∷ xs) h =
     omega (arith, length-append (printed x) (more (map printed xs)), printed-most x (h 0 (omega arith)), fields-most xs (λ i p. h (suc i) (omega arith)))
 
-row-most : (j : ℕ) (xs : List ℤ) → j ≤ 9999 → ((i : ℕ) → i < length xs → nat_abs (at xs i) ≤ 99999) → length (row j xs) ≤ 7 * length xs + 5
+pub row-most : (j : ℕ) (xs : List ℤ) → j ≤ 9999 → ((i : ℕ) → i < length xs → nat_abs (at xs i) ≤ 99999) → length (row j xs) ≤ 7 * length xs + 5
 unfolding row line
 row-most j xs p h =
     let samples = more (map printed xs) in
     omega (arith, length-append (decimal j ++ samples) (line_feed ∷ []), length-append (decimal j) samples, decimal-short j p, fields-most xs h)
 
-refusal-most : (code at : ℕ) → code ≤ 99999 → at ≤ 99999 → length (refusal code at) ≤ 20
+pub refusal-most : (code at : ℕ) → code ≤ 99999 → at ≤ 99999 → length (refusal code at) ≤ 20
 unfolding refusal line more
 refusal-most code at p q =
     let fs = comma ∷ (decimal code ++ (comma ∷ (decimal at ++ []))) in
     omega (arith, length-append (word_refused ++ fs) (line_feed ∷ []), length-append word_refused fs, length-append (decimal code) (comma ∷ (decimal at ++ [])), length-append (decimal at) [], decimal-most code p, decimal-most at q)
 
-rows-most : (hops : ℕ → List ℤ) (c k : ℕ) → ((j : ℕ) → j < k → length (row j (hops j)) ≤ c) → length (rows hops k) ≤ k * c
+pub rows-most : (hops : ℕ → List ℤ) (c k : ℕ) → ((j : ℕ) → j < k → length (row j (hops j)) ≤ c) → length (rows hops k) ≤ k * c
 unfolding rows
 rows-most hops c zero h = omega arith
 rows-most hops c (suc k) h =
@@ -109,42 +109,3 @@ table-room N H t h =
     -- by the multiples of 12: H × 12m bytes at least for the hops
     go : (m : ℕ) → m ≤ 18 → 1 ≤ m → H * (6 * m * 2) ≤ limit → 7 * (6 * m) + 4 + H * (7 * (6 * m) + 5) ≤ room
     go m few some h = omega (arith, mul-le-mul_left H some)
-
-module _ {text : List ℕ} {N H : ℕ} (K : Taken text N H) where
-  -- the row of a hop
-  taken-row : (j : ℕ) → j < H → length (row j (returned_hops N text j)) ≤ 7 * (N / 2) + 5
-  taken-row j p =
-      let h = returned_hops N text j in
-      let l = returned_long N (analysed N (recording (hops_of text))) (suc j) in
-      omega (
-        arith,
-        l,
-        row-most j h (omega (arith, hops-most K))
-            (λ i r. omega (arith, sample_abs (returned-sample N (analysed N (recording (hops_of text))) (suc j) i (omega (arith, l))))),
-      )
-
-  -- behind the rows of the first k hops there is room for another
-  pub row_room : (k from at most : ℕ) → k < H → at ≡ from + length (rows (returned_hops N text) k) → from + H * (7 * (N / 2) + 5) ≤ most → at + (7 * (N / 2) + 5) ≤ most
-  row_room k from at most p is h =
-      let c = 7 * (N / 2) + 5 in
-      let l = rows-most (returned_hops N text) c k (λ j q. taken-row j (omega arith)) in
-      let m : suc k * c ≤ H * c = mul-le-mul_right c p in
-      omega arith
-
-  taken-most : length (table N H (returned_hops N text)) ≤ room
-  unfolding table
-  taken-most =
-      let f = returned_hops N text in
-      omega (arith, length-append (header (N / 2)) (rows f H), header-most (N / 2) (omega (arith, (tabled_length N K.length-tabled).most)), rows-most f (7 * (N / 2) + 5) H taken-row, table-room N H K.length-tabled (hops_bytes K))
-
--- whatever the text is
-pub listing-most : (text : List ℕ) → length (listing text) ≤ room
-unfolding listing
-listing-most text = go (eqb (verdict text).code 0) refl
-  where
-    taken : List ℕ
-    taken = table (verdict text).n (verdict text).hops (returned_hops (verdict text).n text)
-
-    go : (b : Bool) → eqb (verdict text).code 0 ≡ b → length (cond b taken (refusal (verdict text).code (verdict text).line)) ≤ room
-    go true e = taken-most (verdict-taken text (eqb-true (verdict text).code 0 e))
-    go false e = omega (arith, refusal-most (verdict text).code (verdict text).line (omega (arith, verdict-code text)) (omega (arith, verdict-line text)))

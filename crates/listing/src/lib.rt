@@ -1,5 +1,7 @@
 // The listing program on bytes: `round_trip` takes any input, and what it writes is the definition of specs/Listing. The modules `hop` and `verdict` are public for
 // `coarsest_report`, which reads listings too, under their requires.
+#![tactic(auto)]
+
 mod bank;
 mod block;
 pub mod hop;

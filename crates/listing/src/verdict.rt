@@ -11,7 +11,7 @@ use text::number::{is_number, value};
 const LIMIT: usize = 65536;
 
 // What a listing is: refused, with a number and a line, or of a length n and of some hops. A number that says nothing is 0.
-#[derive(Drop)]
+#[derive(Clone, Copy)]
 pub struct Verdict {
     pub code: u32,
     pub line: usize,

@@ -16,7 +16,7 @@ use Rattle.listing.proofs.bank.step.Statement.{statement}
 use Rattle.listing.proofs.bank.step.Tie as tie
 
 -- room for the coefficients
-module _ (c : tie.After-spectrum-room) where
+module _ (c : tie.After-spectrum_room-x) where
   abbrev start : tie.Start
   start = c.before
 
@@ -24,17 +24,17 @@ module _ (c : tie.After-spectrum-room) where
   n = start.args.s.n
 
   abbrev room : List ℤ
-  room = c.spectrum-room.result
+  room = c.spectrum_room-x.result
 
   room≤ : n / 2 ≤ length room
-  room≤ = omega (arith, c.spectrum-room.ensures, (tabled_length n start.pre.0.0).most)
+  room≤ = omega (arith, c.spectrum_room-x.ensures, (tabled_length n start.requires.0.0).most)
 
   room_long : length (take (n / 2) room) ≡ n / 2
   room_long = length-take-le (n / 2) room room≤
 
 -- the coefficients, in front of it
 module _ (c : tie.After-analyse) where
-  abbrev rooms : tie.After-spectrum-room
+  abbrev rooms : tie.After-spectrum_room-x
   rooms = c.before.before
 
   abbrev N : ℕ
@@ -44,7 +44,7 @@ module _ (c : tie.After-analyse) where
   block = (start rooms).args.block.now
 
   abbrev x : List ℤ
-  x = c.analyse.new.1.1.1.1.0
+  x = c.analyse.new.out
 
   abbrev beyond : List ℤ
   beyond = drop (N / 2) (room rooms)
@@ -54,7 +54,7 @@ module _ (c : tie.After-analyse) where
   x-is = c.analyse.ensures
 
   long : length (coefficients Direct N 0 0 block) ≡ N / 2
-  long = coefficients_long N (start rooms).pre.0.0 block (start rooms).pre.0.2
+  long = coefficients_long N (start rooms).requires.0.0 block (start rooms).requires.0.2
 
   x_long : length x ≡ N / 2
   x_long = ap length x-is ∙ long
@@ -65,31 +65,31 @@ module _ (c : tie.After-analyse) where
   brought_long : length (take (N / 2) (x ++ beyond)) ≡ N / 2
   brought_long = ap length brought ∙ long
 
-spectrum_room_requires : tie.Need-spectrum-room-requires
+spectrum_room_requires : tie.Need-spectrum_room-x-requires
 spectrum_room_requires c κs = search rules
 
-array_borrow_prefix_x : tie.Need-array-borrow-prefix-x
+array_borrow_prefix_x : tie.Need-slice_bounds-x-end
 array_borrow_prefix_x c = room≤ c
 
-slice_aggregate_analyse : tie.Need-slice-aggregate-analyse
+slice_aggregate_analyse : tie.Need-slice_bounds-analyse-end
 slice_aggregate_analyse c = sym (room_long c.before)
 
 analyse_requires : tie.Need-analyse-requires
-analyse_requires c κs = let s = start c.before in (s.pre.0.0, s.pre.0.2.long, room_long c.before)
+analyse_requires c κs = let s = start c.before in (s.requires.0.0, s.requires.0.2.long, room_long c.before)
 
-array_share_prefix_x : tie.Need-array-share-prefix-x
+array_share_prefix_x : tie.Need-slice_bounds-x-end-2
 array_share_prefix_x c = let a = c.before in omega (arith, length-append (x a) (beyond a), x_long a)
 
-slice_aggregate_advance : tie.Need-slice-aggregate-advance
+slice_aggregate_advance : tie.Need-slice_bounds-advance-end
 slice_aggregate_advance c = sym (brought_long c.before.before)
 
 advance_requires : tie.Need-advance-requires
 advance_requires c κs =
     let a = c.before.before.before in
     let s = start (rooms a) in
-    ((s.pre.0.0, brought_long a, rw (brought a) (coefficients_small (N a) s.pre.0.0 (block a) s.pre.0.2), s.pre.0.3, s.pre.0.1), s.pre.1)
+    ((s.requires.0.0, brought_long a, rw (brought a) (coefficients_small (N a) s.requires.0.0 (block a) s.requires.0.2), s.requires.0.3, s.requires.0.1), s.requires.1)
 
-same_length : tie.Need-same-length
+same_length : tie.Need-shape_of-out
 same_length c = search rules
 
 returns : tie.Need-returns

@@ -22,30 +22,30 @@ module _ (c : tie.After-shift) where
   kept = drop m start.args.block.now
 
   kept_long : length kept ≡ m
-  kept_long = omega (arith, length-drop m start.args.block.now, start.pre.1)
+  kept_long = omega (arith, length-drop m start.args.block.now, start.requires.1)
 
-  part_long : length (take (length c.shift.new.1.0 - m) (drop m c.shift.new.1.0)) ≡ m
-  part_long = behind_long c.shift.new.1.0 kept m kept_long c.shift.ensures
+  part_long : length (take (length c.shift.new.block - m) (drop m c.shift.new.block)) ≡ m
+  part_long = behind_long c.shift.new.block kept m kept_long c.shift.ensures
 
 shift_requires : tie.Need-shift-requires
 shift_requires c κs = search rules
 
-mul_read_next : tie.Need-overflow-mul-read-next
+mul_read_next : tie.Need-offset_bounds-block-m
 mul_read_next c = search rules
 
-sub_read_next : tie.Need-overflow-sub-read-next
+sub_read_next : tie.Need-slice_bounds-read_next-count
 sub_read_next c = search rules
 
-part_read_next_start : tie.Need-slice-bounds-read-next-start
+part_read_next_start : tie.Need-slice_bounds-read_next-start
 part_read_next_start c = search rules
 
-part_read_next_end : tie.Need-slice-bounds-read-next-end
+part_read_next_end : tie.Need-slice_bounds-read_next-end
 part_read_next_end c = search rules
 
-read_next_requires : tie.Need-read-next-requires
+read_next_requires : tie.Need-read_next-requires
 read_next_requires c κs = let f = c.before.before in rw (part_long f) (start f).requires.0
 
-same_length : tie.Need-same-length
+same_length : tie.Need-shape_of-block
 same_length c = search rules
 
 returns : tie.Need-returns
@@ -53,7 +53,7 @@ returns c =
     let f = c.before.before.before.before in
     let r = c.before.read_next in
     let a = (start f).args in (
-      behind-read f.shift.new.1.0 (kept f) (m f) (kept_long f) f.shift.ensures r.new.1.1.0
+      behind-read f.shift.new.block (kept f) (m f) (kept_long f) f.shift.ensures r.new.out
           ∙ ap (λ (l : List ℤ). kept f ++ l) (r.ensures.0 ∙ ap (λ (k : ℕ). hop_at k a.input.now a.place) (part_long f)),
       r.ensures.1,
     )

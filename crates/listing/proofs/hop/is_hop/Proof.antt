@@ -53,64 +53,64 @@ module _ (line : List ℕ) (i n e : ℕ) (P : Passed line i n) (is : e ≡ i + i
       let q = part-first comma line i e P.within is in
       rw (P.tested, q.1, s) (and-false (eqb (length (fields line)) m))
 
-abbrev invariant-loop : tie.invariant-loop
+abbrev invariant-loop : tie.invariant-loop-m
 invariant-loop line m at₀ count₀ at count = Passed line at count
 
-abbrev decreases-loop : tie.decreases-loop
+abbrev decreases-loop : tie.decreases-loop-m
 decreases-loop line m at₀ count₀ at count = length line - at
 
 -- the end of the field
-end≤ : (c : tie.After-find invariant-loop decreases-loop) → c.find.result ≤ length c.before.before.before.args.line.now
-end≤ c = end-most comma c.before.before.before.args.line.now c.before.loop.at c.find.result c.before.loop.invariant.within c.find.ensures
+end≤ : (c : tie.After-find-end invariant-loop decreases-loop) → c.find-end.result ≤ length c.before.before.before.args.line.now
+end≤ c = end-most comma c.before.before.before.args.line.now c.before.loop-m.at c.find-end.result c.before.loop-m.invariant.within c.find-end.ensures
 
 -- behind the test of the field
-good : (c : tie.Else1 invariant-loop decreases-loop) → is_sample (part c.before.before.before.before.before.before.args.line.now c.before.before.before.before.loop.at c.before.before.before.find.result) ≡ true
-good c = sym c.before.is_sample.ensures ∙ not-false c.before.is_sample.result c.if1.false
+good : (c : tie.Else-not-is_sample invariant-loop decreases-loop) → is_sample (part c.before.before.before.before.before.before.args.line.now c.before.before.before.before.loop-m.at c.before.before.before.find-end.result) ≡ true
+good c = sym c.before.is_sample.ensures ∙ not-false c.before.is_sample.result c.if-not-is_sample.false-raw
 
-loop-holds : tie.Need-loop-init invariant-loop decreases-loop
+loop-holds : tie.Need-loop-m-init invariant-loop decreases-loop
 loop-holds c = passed_none c.before.args.line.now
 
-find_requires : tie.Need-find-requires invariant-loop decreases-loop
+find_requires : tie.Need-find-end-requires invariant-loop decreases-loop
 find_requires c κs = search rules
 
-sub_is_sample : tie.Need-overflow-sub-is-sample invariant-loop decreases-loop
-sub_is_sample c = omega (arith, c.find.ensures)
+sub_is_sample : tie.Need-slice_bounds-is_sample-count invariant-loop decreases-loop
+sub_is_sample c = omega (arith, c.find-end.ensures)
 
-part_is_sample_start : tie.Need-slice-bounds-is-sample-start invariant-loop decreases-loop
-part_is_sample_start c = omega (arith, c.find.ensures)
+part_is_sample_start : tie.Need-slice_bounds-is_sample-start invariant-loop decreases-loop
+part_is_sample_start c = omega (arith, c.find-end.ensures)
 
-part_is_sample_end : tie.Need-slice-bounds-is-sample-end invariant-loop decreases-loop
+part_is_sample_end : tie.Need-slice_bounds-is_sample-end invariant-loop decreases-loop
 part_is_sample_end c = end≤ c
 
-is_sample_requires : tie.Need-is-sample-requires invariant-loop decreases-loop
+is_sample_requires : tie.Need-is_sample-requires invariant-loop decreases-loop
 is_sample_requires c κs = search rules
 
-returns : tie.Need-returns invariant-loop decreases-loop
+returns : tie.Need-returns-then-not-is_sample invariant-loop decreases-loop
 returns c =
     let f = c.before.before.before in
     let l = f.before in
-    sym (hop-bad l.before.before.args.line.now l.loop.at l.loop.count f.find.result l.loop.invariant f.find.ensures l.before.before.args.m (sym c.before.is_sample.ensures ∙ not-true c.before.is_sample.result c.if1.true))
+    sym (hop-bad l.before.before.args.line.now l.loop-m.at l.loop-m.count f.find-end.result l.loop-m.invariant f.find-end.ensures l.before.before.args.m (sym c.before.is_sample.ensures ∙ not-true c.before.is_sample.result c.if-not-is_sample.true-raw))
 
-add_count : tie.Need-overflow-add-count invariant-loop decreases-loop
+add_count : tie.Need-overflow_add-count invariant-loop decreases-loop
 add_count c = search rules
 
-returns_2 : tie.Need-returns-2 invariant-loop decreases-loop
+returns_2 : tie.Need-returns-then-end-line invariant-loop decreases-loop
 returns_2 c =
     let f = c.before.before.before.before in
     let l = f.before in
-    sym (hop-last l.before.before.args.line.now l.loop.at l.loop.count f.find.result l.loop.invariant f.find.ensures l.before.before.args.m c.if2.true (good c.before))
+    sym (hop-last l.before.before.args.line.now l.loop-m.at l.loop-m.count f.find-end.result l.loop-m.invariant f.find-end.ensures l.before.before.args.m c.if-end-line.true (good c.before))
 
-add_at : tie.Need-overflow-add-at invariant-loop decreases-loop
+add_at : tie.Need-overflow_add-at invariant-loop decreases-loop
 add_at c = omega (arith, end≤ c.before.before.before.before)
 
-loop-less : tie.Need-loop-smaller invariant-loop decreases-loop
-loop-less c = let f = c.before.before.before.before in omega (arith, end≤ f, f.find.ensures)
+loop-less : tie.Need-loop-m-smaller invariant-loop decreases-loop
+loop-less c = let f = c.before.before.before.before in omega (arith, end≤ f, f.find-end.ensures)
 
-loop-again : tie.Need-loop-preserved invariant-loop decreases-loop
+loop-again : tie.Need-loop-m-preserved invariant-loop decreases-loop
 loop-again c =
     let f = c.before.before.before.before in
     let l = f.before in
-    passed-next l.before.before.args.line.now l.loop.at l.loop.count f.find.result l.loop.invariant f.find.ensures (omega (arith, end≤ f)) (good c.before)
+    passed-next l.before.before.args.line.now l.loop-m.at l.loop-m.count f.find-end.result l.loop-m.invariant f.find-end.ensures (omega (arith, end≤ f)) (good c.before)
 
 pub is_hop_spec : {M : Type 1} → statement M
 is_hop_spec =

@@ -31,34 +31,34 @@ module _ (f : List ℕ) where
   unfolding is_sample
   by_high e l = rw (e, l)
 
-is_number_requires : tie.Need-is-number-requires
+is_number_requires : tie.Need-is_number-requires
 is_number_requires c κs = search rules
 
-returns : tie.Need-returns
-returns c = sym (no_number c.before.before.before.args.field.now (sym c.before.is_number.ensures ∙ not-true c.before.is_number.result c.if1.true))
+returns : tie.Need-returns-then-not-is_number
+returns c = sym (no_number c.before.before.before.args.field.now (sym c.before.is_number.ensures ∙ not-true c.before.is_number.result c.if-not-is_number.true-raw))
 
 -- behind the test of the form
-module _ (c : tie.After-value) where
+module _ (c : tie.After-value-v) where
   abbrev text : List ℕ
   text = c.before.before.before.before.args.field.now
 
   form : is_number digits text ≡ true
-  form = sym c.before.before.is_number.ensures ∙ not-false c.before.before.is_number.result c.before.if1.false
+  form = sym c.before.before.is_number.ensures ∙ not-false c.before.before.is_number.result c.before.if-not-is_number.false-raw
 
   -- the number, as the machine has it
-  value-is : to_z w64 (of_z w64 c.value.result) ≡ value text
-  value-is = to_z-of_z (record { sfits = c.value.type-inv }) ∙ c.value.ensures
+  value-is : to_z w64 (of_z w64 c.value-v.result) ≡ value text
+  value-is = to_z-of_z {w = w64} (record { sfits = c.value-v.type_inv }) ∙ c.value-v.ensures
 
-value_requires : tie.Need-value-requires
-value_requires c κs = number_fits _ (is_T (sym c.before.is_number.ensures ∙ not-false c.before.is_number.result c.if1.false))
+value_requires : tie.Need-value-v-requires
+value_requires c κs = number_fits _ (is_T (sym c.before.is_number.ensures ∙ not-false c.before.is_number.result c.if-not-is_number.false-raw))
 
-returns_2 : tie.Need-returns-2
+returns_2 : tie.Need-returns-then-v-geminus32768
 returns_2 c =
     let v = c.before in
-    ap (λ (z : ℤ). le_z z largest) (value-is v) ∙ sym (by_high (text v) (form v) (rw (value-is v) at c.if2.true))
+    ap (λ (z : ℤ). le_z z largest) (value-is v) ∙ sym (by_high (text v) (form v) (rw (value-is v) at c.if-v-geminus32768.true))
 
-returns_3 : tie.Need-returns-3
-returns_3 c = let v = c.before in sym (too_low (text v) (form v) (rw (value-is v) at c.if2.false))
+returns_3 : tie.Need-returns
+returns_3 c = let v = c.before in sym (too_low (text v) (form v) (rw (value-is v) at c.if-v-geminus32768.false))
 
 pub is_sample_spec : {M : Type 1} → statement M
 is_sample_spec = tie.close (tie.spec is_number_requires returns value_requires returns_2 returns_3)

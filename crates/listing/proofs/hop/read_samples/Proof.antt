@@ -78,93 +78,93 @@ module _ (line : List ℕ) (out₀ out : List ℤ) (p i e : ℕ) (t : T (is_hop 
     left = λ k. rw (add-one i) (same (sym (part-found comma line p e (R.within h) is (more k)) ∙ R.left h ∙ rest)).1;
   }
 
-abbrev invariant-loop : tie.invariant-loop
+abbrev invariant-loop : tie.invariant-loop-i
 invariant-loop line out₀ at₀ i₀ out at i = Reading line out₀ out at i
 
-abbrev decreases-loop : tie.decreases-loop
+abbrev decreases-loop : tie.decreases-loop-i
 decreases-loop line out₀ at₀ i₀ out at i = length out₀ - i
 
 -- a turn of the loop
-module _ (c : tie.In-loop invariant-loop decreases-loop) where
+module _ (c : tie.In-loop-i invariant-loop decreases-loop) where
   abbrev text : List ℕ
   text = c.before.before.before.args.line.now
 
   abbrev out₀ : List ℤ
   out₀ = c.before.before.before.args.out.now
 
-  abbrev loop : Reading text out₀ c.before.loop.out c.before.loop.at c.before.loop.i
-  loop = c.before.loop.invariant
+  abbrev loop : Reading text out₀ c.before.loop-i.out c.before.loop-i.at c.before.loop-i.i
+  loop = c.before.loop-i.invariant
 
-  turn : c.before.loop.i < length out₀
+  turn : c.before.loop-i.i < length out₀
   turn = omega (arith, loop.filled.room)
 
-module _ (c : tie.After-find invariant-loop decreases-loop) where
-  end≤ : c.find.result ≤ length (text c.before)
-  end≤ = end-most comma (text c.before) c.before.before.loop.at c.find.result ((loop c.before).within (turn c.before)) c.find.ensures
+module _ (c : tie.After-find-end invariant-loop decreases-loop) where
+  end≤ : c.find-end.result ≤ length (text c.before)
+  end≤ = end-most comma (text c.before) c.before.before.loop-i.at c.find-end.result ((loop c.before).within (turn c.before)) c.find-end.ensures
 
-  number : T (is_number most_digits (part (text c.before) c.before.before.loop.at c.find.result))
-  number = field_number (text c.before) (out₀ c.before) c.before.before.loop.out c.before.before.loop.at c.before.before.loop.i c.find.result c.before.before.before.before.requires (loop c.before) (turn c.before) c.find.ensures
+  number : T (is_number most_digits (part (text c.before) c.before.before.loop-i.at c.find-end.result))
+  number = field_number (text c.before) (out₀ c.before) c.before.before.loop-i.out c.before.before.loop-i.at c.before.before.loop-i.i c.find-end.result c.before.before.before.before.requires (loop c.before) (turn c.before) c.find-end.ensures
 
-  fits : SFits w16 (value (part (text c.before) c.before.before.loop.at c.find.result))
-  fits = field_fits (text c.before) (out₀ c.before) c.before.before.loop.out c.before.before.loop.at c.before.before.loop.i c.find.result c.before.before.before.before.requires (loop c.before) (turn c.before) c.find.ensures
+  fits : SFits w16 (value (part (text c.before) c.before.before.loop-i.at c.find-end.result))
+  fits = field_fits (text c.before) (out₀ c.before) c.before.before.loop-i.out c.before.before.loop-i.at c.before.before.loop-i.i c.find-end.result c.before.before.before.before.requires (loop c.before) (turn c.before) c.find-end.ensures
 
 -- the value, as the machine has it
-value-is : (c : tie.After-value invariant-loop decreases-loop) → to_z w64 (of_z w64 c.value.result) ≡ value (part (text c.before.before.before) c.before.before.before.before.loop.at c.before.before.find.result)
-value-is c = to_z-of_z (record { sfits = c.value.type-inv }) ∙ c.value.ensures
+value-is : (c : tie.After-value invariant-loop decreases-loop) → to_z w64 (of_z w64 c.value.result) ≡ value (part (text c.before.before.before) c.before.before.before.before.loop-i.at c.before.before.find-end.result)
+value-is c = to_z-of_z {w = w64} (record { sfits = c.value.type_inv }) ∙ c.value.ensures
 
-loop-holds : tie.Need-loop-init invariant-loop decreases-loop
+loop-holds : tie.Need-loop-i-init invariant-loop decreases-loop
 loop-holds c = reading_none c.before.args.line.now c.before.args.out.now
 
-find_requires : tie.Need-find-requires invariant-loop decreases-loop
+find_requires : tie.Need-find-end-requires invariant-loop decreases-loop
 find_requires c κs = (loop c).within (turn c)
 
-sub_value : tie.Need-overflow-sub-value invariant-loop decreases-loop
-sub_value c = omega (arith, c.find.ensures)
+sub_value : tie.Need-slice_bounds-value-count invariant-loop decreases-loop
+sub_value c = omega (arith, c.find-end.ensures)
 
-part_value_start : tie.Need-slice-bounds-value-start invariant-loop decreases-loop
-part_value_start c = omega (arith, c.find.ensures)
+part_value_start : tie.Need-slice_bounds-value-start invariant-loop decreases-loop
+part_value_start c = omega (arith, c.find-end.ensures)
 
-part_value_end : tie.Need-slice-bounds-value-end invariant-loop decreases-loop
+part_value_end : tie.Need-slice_bounds-value-end invariant-loop decreases-loop
 part_value_end c = end≤ c
 
 value_requires : tie.Need-value-requires invariant-loop decreases-loop
 value_requires c κs = number c.before
 
-cast_out : tie.Need-overflow-cast-out invariant-loop decreases-loop
+cast_out : tie.Need-overflow_cast-out invariant-loop decreases-loop
 cast_out c = rw (value-is c) (fits c.before.before)
 
-mul_t13 : tie.Need-overflow-mul-t13 invariant-loop decreases-loop
+mul_t13 : tie.Need-offset_bounds-out-i invariant-loop decreases-loop
 mul_t13 c = search rules
 
-slice_set_from_out : tie.Need-slice-set-from-out invariant-loop decreases-loop
+slice_set_from_out : tie.Need-bounds-out-i invariant-loop decreases-loop
 slice_set_from_out c = search rules
 
-add_at : tie.Need-overflow-add-at invariant-loop decreases-loop
+add_at : tie.Need-overflow_add-at invariant-loop decreases-loop
 add_at c = omega (arith, end≤ c.before.before)
 
-add_i : tie.Need-overflow-add-i invariant-loop decreases-loop
+add_i : tie.Need-overflow_add-i invariant-loop decreases-loop
 add_i c = search rules
 
-loop-less : tie.Need-loop-smaller invariant-loop decreases-loop
+loop-less : tie.Need-loop-i-smaller invariant-loop decreases-loop
 loop-less c = let h = turn c.before.before.before in omega arith
 
-loop-again : tie.Need-loop-preserved invariant-loop decreases-loop
+loop-again : tie.Need-loop-i-preserved invariant-loop decreases-loop
 loop-again c =
     let f = c.before.before in
     let l = f.before.before in
-    reading_more (text f.before) (out₀ f.before) l.loop.out l.loop.at l.loop.i f.find.result l.before.before.requires l.loop.invariant (turn f.before) f.find.ensures
+    reading_more (text f.before) (out₀ f.before) l.loop-i.out l.loop-i.at l.loop-i.i f.find-end.result l.before.before.requires l.loop-i.invariant (turn f.before) f.find-end.ensures
     (to_z w16 (of_z w16 (to_z w64 (of_z w64 c.value.result))))
     (rw (value-is c) (to_z-of_z (fits f)))
 
-same_length : tie.Need-same-length invariant-loop decreases-loop
-same_length c = c.before.loop.invariant.filled.room
+same_length : tie.Need-shape_of-out invariant-loop decreases-loop
+same_length c = c.before.loop-i.invariant.filled.room
 
 returns : tie.Need-returns invariant-loop decreases-loop
 returns c =
     let l = c.before in
     let s = l.before.before in
-    let all : length s.args.out.now ≡ l.loop.i = omega (arith, l.loop.invariant.few, l.loop.invariant.filled.room) in
-    filled-all (value_at s.args.line.now) l.loop.i l.loop.out s.args.out.now l.loop.invariant.filled all
+    let all : length s.args.out.now ≡ l.loop-i.i = omega (arith, l.loop-i.invariant.few, l.loop-i.invariant.filled.room) in
+    filled-all (value_at s.args.line.now) l.loop-i.i l.loop-i.out s.args.out.now l.loop-i.invariant.filled all
     ∙ ap (λ (k : ℕ). table k (value_at s.args.line.now)) (sym all)
     ∙ sym (hop-samples (length s.args.out.now) s.args.line.now s.requires)
 

@@ -18,69 +18,66 @@ use Rattle.listing.proofs.print.put_header.Tie as tie
 abbrev name : ℕ → List ℕ
 name i = word_s ++ decimal i
 
-abbrev invariant-loop : tie.invariant-loop
+abbrev invariant-loop : tie.invariant-loop-i
 invariant-loop m out₀ from at₀ i₀ out at i = (i ≤ m) × Put (more (table i name)) out₀ at₀ out at × (at ≤ at₀ + 7 * i)
 
-abbrev decreases-loop : tie.decreases-loop
+abbrev decreases-loop : tie.decreases-loop-i
 decreases-loop m out₀ from at₀ i₀ out at i = m - i
 
 -- the buffer behind the first field, as the loop begins
-module _ (c : tie.At-loop invariant-loop decreases-loop) where
+module _ (c : tie.At-loop-i invariant-loop decreases-loop) where
   abbrev start : tie.Start invariant-loop decreases-loop
-  start = c.before.before.before.before.before.before.before
+  start = c.before.before.before.before.before.before.before.before
 
-  first : Put word_hop start.args.out.now start.args.from c.before.before.before.put-text.new.1.0 c.before.before.before.put-text.result
-  first = c.before.before.before.put-text.ensures
+  first : Put word_hop start.args.out.now start.args.from c.before.before.before.put_text-at.new.out c.before.before.before.put_text-at.result
+  first = c.before.before.before.put_text-at.ensures
 
-  kept : length c.before.before.before.put-text.new.1.0 ≡ length start.args.out.now
+  kept : length c.before.before.before.put_text-at.new.out ≡ length start.args.out.now
   kept = put_length first
 
   -- there is room for the names left, and for the line feed
-  room : c.loop.at + (7 * (start.args.m - c.loop.i) + 1) ≤ length c.loop.out
-  room = omega (arith, c.loop.invariant.2, put_length c.loop.invariant.1, first.behind, kept)
+  room : c.loop-i.at + (7 * (start.args.m - c.loop-i.i) + 1) ≤ length c.loop-i.out
+  room = omega (arith, c.loop-i.invariant.2, put_length c.loop-i.invariant.1, first.behind, kept)
 
-slice_aggregate_put_text : tie.Need-slice-aggregate-put-text invariant-loop decreases-loop
-slice_aggregate_put_text c = search rules
-
-put_text_requires : tie.Need-put-text-requires invariant-loop decreases-loop
+put_text_requires : tie.Need-put_text-at-requires invariant-loop decreases-loop
 put_text_requires c κs = search rules
 
-loop-holds : tie.Need-loop-init invariant-loop decreases-loop
+loop-holds : tie.Need-loop-i-init invariant-loop decreases-loop
 unfolding more table
 loop-holds c = (search rules, put_none, search rules)
 
-put_name_requires : tie.Need-put-name-requires invariant-loop decreases-loop
+put_name_requires : tie.Need-put_name-at-requires invariant-loop decreases-loop
 put_name_requires c κs = (omega arith, omega (arith, room c.before.before))
 
-add_i : tie.Need-overflow-add-i invariant-loop decreases-loop
+add_i : tie.Need-overflow_add-i invariant-loop decreases-loop
 add_i c = search rules
 
-loop-less : tie.Need-loop-smaller invariant-loop decreases-loop
+loop-less : tie.Need-loop-i-smaller invariant-loop decreases-loop
 loop-less c = search rules
 
-loop-again : tie.Need-loop-preserved invariant-loop decreases-loop
+loop-again : tie.Need-loop-i-preserved invariant-loop decreases-loop
 loop-again c =
     let p = c.before.before in
     let t = p.before.before in
     let l = t.before in (
       search rules,
-      rw (names-next name l.loop.i) (put_then l.loop.invariant.1 p.put-name.ensures),
-      omega (arith, l.loop.invariant.2, p.put-name.ensures.behind, decimal-most l.loop.i (omega arith)),
+      rw (names-next name l.loop-i.i) (put_then l.loop-i.invariant.1 p.put_name-at.ensures),
+      omega (arith, l.loop-i.invariant.2, p.put_name-at.ensures.behind, decimal-most l.loop-i.i (omega arith)),
     )
 
-put_byte_requires : tie.Need-put-byte-requires invariant-loop decreases-loop
+put_byte_requires : tie.Need-put_byte-requires invariant-loop decreases-loop
 put_byte_requires c κs = omega (arith, room c.before.before)
 
-same_length : tie.Need-same-length invariant-loop decreases-loop
-same_length c = let l = c.before.before.before.before.before in c.before.before.put_byte.auto.1.0 ∙ put_length l.loop.invariant.1 ∙ kept l
+same_length : tie.Need-shape_of-out invariant-loop decreases-loop
+same_length c = let l = c.before.before.before.before.before in c.before.before.put_byte.auto.out ∙ put_length l.loop-i.invariant.1 ∙ kept l
 
 returns : tie.Need-returns invariant-loop decreases-loop
 unfolding header line
 returns c =
     let e = c.before.before.before.before in
     let l = e.before in
-    let all : l.loop.i ≡ (start l).args.m = omega arith in
-    let put = rw all at l.loop.invariant.1 in
+    let all : l.loop-i.i ≡ (start l).args.m = omega arith in
+    let put = rw all at l.loop-i.invariant.1 in
     put_then (put_then (first l) put) c.before.before.put_byte.ensures
 
 pub put_header_spec : {M : Type 1} → statement M
@@ -89,7 +86,6 @@ put_header_spec =
     (tie.spec
     invariant-loop
     decreases-loop
-    slice_aggregate_put_text
     put_text_requires
     loop-holds
     put_name_requires

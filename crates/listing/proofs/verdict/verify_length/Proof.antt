@@ -37,51 +37,51 @@ module _ (c : tie.Start) where
   n_is = to_z-of_z c.ranges.n
 
 -- behind the test of the sign
-above : (c : tie.Else1) → lt_z c.before.before.args.n (pos 0) ≡ false
-above c = rw (n_is c.before.before) at c.if1.false
+above : (c : tie.Else-n-lt0) → lt_z c.before.before.args.n (pos 0) ≡ false
+above c = rw (n_is c.before.before) at c.if-n-lt0.false
 
-cast : (c : tie.Else1) → T (non_neg (to_z w64 (of_z w64 c.before.before.args.n))) × Fits w64 (nat_abs (to_z w64 (of_z w64 c.before.before.args.n)))
+cast : (c : tie.Else-n-lt0) → T (non_neg (to_z w64 (of_z w64 c.before.before.args.n))) × Fits w64 (nat_abs (to_z w64 (of_z w64 c.before.before.args.n)))
 cast c = rw (n_is c.before.before) (not_below c.before.before.args.n (above c), omega (arith, abs_sfits c.before.before.ranges.n))
 
 refused_requires : tie.Need-refused-requires
 refused_requires c κs = search rules
 
-returns : tie.Need-returns
+returns : tie.Need-returns-then-n-lt0
 returns c =
     let s = c.before.before.before in
-    c.refused.ensures ∙ sym (length_below (left s) (rest s) s.args.n (rw (n_is s) at c.before.if1.true))
+    c.refused.ensures ∙ sym (length_below (left s) (rest s) s.args.n (rw (n_is s) at c.before.if-n-lt0.true))
 
-cast_is_tabled : tie.Need-overflow-cast-is-tabled
+cast_is_tabled : tie.Need-overflow_cast-n
 cast_is_tabled c = cast c
 
-is_tabled_requires : tie.Need-is-tabled-requires
+is_tabled_requires : tie.Need-is_tabled-requires
 is_tabled_requires c κs = search rules
 
 -- what the table says
-table : (c : tie.After-is-tabled) → c.is-tabled.result ≡ tabled (nat_abs c.before.before.before.args.n)
-table c = c.is-tabled.ensures ∙ rw (n_is c.before.before.before)
+table : (c : tie.After-is_tabled) → c.is_tabled.result ≡ tabled (nat_abs c.before.before.before.args.n)
+table c = c.is_tabled.ensures ∙ rw (n_is c.before.before.before)
 
-refused_requires_2 : tie.Need-refused-requires-2
+refused_requires_2 : tie.Need-refused-requires-then-not-is_tabled
 refused_requires_2 c κs = search rules
 
-returns_2 : tie.Need-returns-2
+returns_2 : tie.Need-returns-then-not-is_tabled
 returns_2 c =
     let t = c.before.before in
     let s = t.before.before.before in
-    c.refused2.ensures ∙ sym (length-other (left s) (rest s) s.args.n (above t.before) (sym (table t) ∙ not-true t.is-tabled.result c.before.if2.true))
+    c.refused-then-not-is_tabled.ensures ∙ sym (length-other (left s) (rest s) s.args.n (above t.before) (sym (table t) ∙ not-true t.is_tabled.result c.before.if-not-is_tabled.true-raw))
 
-cast_verify_hops : tie.Need-overflow-cast-verify-hops
+cast_verify_hops : tie.Need-overflow_cast-n-2
 cast_verify_hops c = cast c.before.before
 
-verify_hops_requires : tie.Need-verify-hops-requires
+verify_hops_requires : tie.Need-verify_hops-requires
 verify_hops_requires c κs = search rules
 
-returns_3 : tie.Need-returns-3
+returns_3 : tie.Need-returns
 returns_3 c =
     let t = c.before.before in
     let s = t.before.before.before in
-    c.verify-hops.ensures
-    ∙ rw (n_is s) (sym (length-tabled (left s) (rest s) s.args.n (above t.before) (sym (table t) ∙ not-false t.is-tabled.result c.before.if2.false)))
+    c.verify_hops.ensures
+    ∙ rw (n_is s) (sym (length-tabled (left s) (rest s) s.args.n (above t.before) (sym (table t) ∙ not-false t.is_tabled.result c.before.if-not-is_tabled.false-raw)))
 
 pub verify_length_spec : {M : Type 1} → statement M
 verify_length_spec =

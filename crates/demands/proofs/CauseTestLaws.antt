@@ -1,0 +1,111 @@
+-- The causes of Answers, in words of the input, as the tests that the calls make.
+use Rattle.std.specs.Prelude.{◌≡◌, ◌≢◌, Bool, List, ℕ, ◌<◌, T, leb, length, ℤ, pos, nat_abs, ◌<ℤ◌}
+use Rattle.std.proofs.Math.Path.{refl}
+use Rattle.std.proofs.Math.Bool.{true, false, cond}
+use Rattle.std.proofs.Common.{arith, leb→le}
+use Rattle.std.proofs.Math.Decide.{ℕ_discrete}
+use Rattle.std.specs.Int.Signed.{lt_z}
+use borrow.Author.Tests.{le-leb, eq-eqb, ne_eqb}
+use Rattle.arithmetic.specs.Lists.{at, every}
+use Rattle.arithmetic.specs.TestLaws.{all_make, both_left, both_right, cond_yes, is_true, is_false}
+use Rattle.cosine.specs.Kernels.{lengths, tabled}
+use Rattle.stream.specs.declared.Stream.{Stream}
+use Rattle.checks.specs.Limits.{within, tail_limit, coefficient_limit, in_range, hop_limit, counted, are_shapes}
+use Rattle.checks.specs.LimitLaws.{range_small, abs_within, counted-some, counted-most}
+use Rattle.stream_calls.specs.Streams.{sound, fits}
+use Rattle.stream_calls.specs.StreamLaws.{sound-tabled, sound-bounded}
+use Rattle.state_calls.specs.States as F
+use Rattle.demands.proofs.StepLaws.{sound_of}
+use Rattle.demands.specs.Answers.{Tabled, Counted, InRange, SoundTail, Shapes}
+
+module _ (H : ℕ) where
+  pub counts : Counted H → counted H ≡ true
+  unfolding counted
+  counts c = rw (le-leb 1 H c.some, le-leb H hop_limit c.most)
+
+  pub counts_not : ¬ Counted H → counted H ≡ false
+  counts_not n = is_false (λ t. n (record { some = counted-some H (is_true t); most = counted-most H (is_true t) }))
+
+module _ (x : List ℤ) (m : ℕ) (l : length x ≡ m) where
+  pub ranges : InRange x → in_range m x ≡ true
+  unfolding in_range
+  ranges r = is_true (all_make m (λ k. within (at x k) coefficient_limit) (λ k p. abs_within (at x k) coefficient_limit (r.each k (rw l p))))
+
+  pub of_ranges : in_range m x ≡ true → InRange x
+  of_ranges e = record { each = (range_small x m l e).small }
+
+  pub ranges_not : ¬ InRange x → in_range m x ≡ false
+  ranges_not n = is_false (λ t. n (of_ranges (is_true t)))
+
+module _ (s : Stream) where
+  pub sounds : Tabled s.n → SoundTail s → sound s ≡ true
+  unfolding tail_limit
+  sounds t b = is_true (sound_of s t b.each)
+
+  pub sounds_not_n : ¬ Tabled s.n → sound s ≡ false
+  sounds_not_n n = is_false (λ t. n (sound-tabled s (is_true t)))
+
+  pub sounds_not_tail : ¬ SoundTail s → sound s ≡ false
+  unfolding tail_limit
+  sounds_not_tail n = is_false (λ t. n (record { each = (sound-bounded s (is_true t)).within }))
+
+-- the shapes as tests
+pub shapes_true : (l r : ℕ) → Shapes l r → are_shapes l r ≡ true
+unfolding are_shapes
+shapes_true l r h = rw (le-leb l 1 h.left_is, le-leb r 1 h.right_is)
+
+pub shapes_of : (l r : ℕ) → T (are_shapes l r) → Shapes l r
+unfolding are_shapes
+shapes_of l r t = record { left_is = leb→le l 1 (both_left (leb l 1) (leb r 1) t); right_is = leb→le r 1 (both_right (leb l 1) (leb r 1) t) }
+
+pub shapes_false : (l r : ℕ) → ¬ Shapes l r → are_shapes l r ≡ false
+shapes_false l r n = is_false (λ (t : T (are_shapes l r)). n (shapes_of l r t))
+
+-- the joint between a stream and a block, as a test
+module _ (s : Stream) (l r : ℕ) where
+  pub fits-true : Shapes l r → l ≡ s.shape → fits l r s.shape ≡ true
+  unfolding fits
+  fits-true h e = rw (shapes_true l r h, eq-eqb l s.shape e)
+
+  pub fits_not : ¬ Shapes l r → fits l r s.shape ≡ false
+  unfolding fits
+  fits_not n = rw (shapes_false l r n)
+
+  pub fits-other : l ≢ s.shape → fits l r s.shape ≡ false
+  unfolding fits
+  fits-other n = rw (ne_eqb l s.shape n) (go (are_shapes l r))
+    where
+      go : (b : Bool) → cond b false false ≡ false
+      go true = refl
+      go false = refl
+
+  -- a shape above 1 is no left shape, or is one that is refused itself
+  pub fits_forged : 1 < s.shape → fits l r s.shape ≡ false
+  fits_forged h = go (ℕ_discrete l s.shape)
+    where
+      go : Dec (l ≡ s.shape) → fits l r s.shape ≡ false
+      go (yes e) = fits_not (λ (q : Shapes l r). omega (arith, q.left_is, e, h))
+      go (no n) = fits-other n
+
+-- ---- the entries of a state
+-- what an entry below zero stands for
+pub negative : (z : ℤ) (other : ℕ) → z <ℤ pos 0 → F.number_in z other ≡ other
+unfolding F.number_in
+negative z other h = cond_yes (lt_z z (pos 0)) other (nat_abs z) h.lt
+
+pub no_length_0 : ¬ Tabled 0
+unfolding tabled every lengths
+no_length_0 t = t
+
+-- a shape below 0 or above 1 stands as 2
+pub shape-negative : (z : ℤ) → z <ℤ pos 0 → F.shape_in z ≡ 2
+unfolding F.shape_in
+shape-negative z h = cond_yes (lt_z z (pos 0)) 2 (cond (lt_z (pos 1) z) 2 (nat_abs z)) h.lt
+
+pub shape-large : (z : ℤ) → pos 1 <ℤ z → F.shape_in z ≡ 2
+unfolding F.shape_in
+shape-large z h = let e : lt_z (pos 1) z ≡ true = is_true h.lt in rw e (go (lt_z z (pos 0)))
+  where
+    go : (b : Bool) → ◌≡◌ {A = ℕ} (cond b 2 2) 2
+    go true = refl
+    go false = refl
