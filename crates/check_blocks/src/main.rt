@@ -1,8 +1,11 @@
 // Blocks through the public analysis, by every route and between joints of every shape, compared with what vectors/blocks.py makes from the definitions.
+#![tactic(auto)]
+
 ghost use Rattle.std.specs.Prelude.{◌≤◌, ◌<◌, ◌*◌, ◌/◌, ◌^◌, T};
 ghost use Rattle.cosine.specs.Kernels.{tabled};
 
 use analysis::Route;
+use std::io;
 
 // Room for the longest block and for buffers that are too long.
 const ROOM: usize = 220;
@@ -20,47 +23,73 @@ const LONG: u32 = 0;
 
 const SHORT: u32 = 1;
 
-fn show_route(route: Route) {
+fn show_route(rt: &impl Print, route: Route) -> io::Result<()> {
     match route {
-        Route::Direct => report::word(b"direct"),
-        Route::Short => report::word(b"short"),
-        Route::Double => report::word(b"double"),
+        Route::Direct => report::word(rt, b"direct")?,
+        Route::Short => report::word(rt, b"short")?,
+        Route::Double => report::word(rt, b"double")?,
     }
+    Ok(())
 }
 
 // One call: its route, N, the shapes of the block's joints and the number of samples, and what is there afterwards.
-fn told(route: Route, n: usize, left: u32, right: u32, x: &[i16], out: &mut [i32]) {
-    show_route(route);
-    report::count(n);
-    report::count(left as usize);
-    report::count(right as usize);
-    report::count(x.len());
+fn told(
+    rt: &impl Print,
+    route: Route,
+    n: usize,
+    left: u32,
+    right: u32,
+    x: &[i16],
+    out: &mut [i32],
+) -> io::Result<()> {
+    show_route(rt, route)?;
+    report::count(rt, n)?;
+    report::count(rt, left as usize)?;
+    report::count(rt, right as usize)?;
+    report::count(rt, x.len())?;
     let code = filter_bank::analyse(route, n, left, right, x, out);
-    report::count(code as usize);
-    report::coefficients(out, SHOWN);
+    report::count(rt, code as usize)?;
+    report::coefficients(rt, out, SHOWN)
 }
 
 // A call on the first l entries of x and a buffer of m marks.
-fn offer(route: Route, n: usize, left: u32, right: u32, x: [i16; ROOM], l: usize, m: usize)
+fn offer(
+    rt: &impl Print,
+    route: Route,
+    n: usize,
+    left: u32,
+    right: u32,
+    x: [i16; ROOM],
+    l: usize,
+    m: usize,
+) -> io::Result<()>
     requires { (l ≤ 220) × (m ≤ 220) }
 {
     let mut out = [12345; ROOM];
-    told(route, n, left, right, &x[..l], &mut out[..m]);
+    told(rt, route, n, left, right, &x[..l], &mut out[..m])
 }
 
-fn each_route(n: usize, left: u32, right: u32, x: [i16; ROOM], l: usize, m: usize)
+fn each_route(
+    rt: &impl Print,
+    n: usize,
+    left: u32,
+    right: u32,
+    x: [i16; ROOM],
+    l: usize,
+    m: usize,
+) -> io::Result<()>
     requires { (l ≤ 220) × (m ≤ 220) }
 {
-    offer(Route::Direct, n, left, right, x, l, m);
-    offer(Route::Short, n, left, right, x, l, m);
-    offer(Route::Double, n, left, right, x, l, m);
+    offer(rt, Route::Direct, n, left, right, x, l, m)?;
+    offer(rt, Route::Short, n, left, right, x, l, m)?;
+    offer(rt, Route::Double, n, left, right, x, l, m)
 }
 
 // A block of the stated lengths.
-fn block(n: usize, left: u32, right: u32, x: [i16; ROOM])
+fn block(rt: &impl Print, n: usize, left: u32, right: u32, x: [i16; ROOM]) -> io::Result<()>
     requires { n ≤ 216 }
 {
-    each_route(n, left, right, x, n, n / 2);
+    each_route(rt, n, left, right, x, n, n / 2)
 }
 
 // Noise of a seed and a span.
@@ -129,309 +158,313 @@ fn driven(n: usize, k: usize, low: i16, high: i16) -> [i16; ROOM]
 }
 
 // Blocks of two values: each alone, in turn either way, and one of them at every place.
-fn steadies(n: usize, left: u32, right: u32, low: i16, high: i16)
+fn steadies(rt: &impl Print, n: usize, left: u32, right: u32, low: i16, high: i16) -> io::Result<()>
     requires { n ≤ 216 }
 {
-    block(n, left, right, steady(low));
-    block(n, left, right, steady(high));
-    block(n, left, right, alternating(low, high));
-    block(n, left, right, alternating(high, low));
+    block(rt, n, left, right, steady(low))?;
+    block(rt, n, left, right, steady(high))?;
+    block(rt, n, left, right, alternating(low, high))?;
+    block(rt, n, left, right, alternating(high, low))
 }
 
-fn impulses(n: usize, low: i16, high: i16)
+fn impulses(rt: &impl Print, n: usize, low: i16, high: i16) -> io::Result<()>
     requires { n ≤ 216 }
 {
     for i in 0..n {
-        block(n, LONG, LONG, impulse(i, low));
-        block(n, LONG, LONG, impulse(i, high));
+        block(rt, n, LONG, LONG, impulse(i, low))?;
+        block(rt, n, LONG, LONG, impulse(i, high))?;
     }
+    Ok(())
 }
 
 // Every coefficient driven as far as it goes, either way.
-fn drives(n: usize, left: u32, right: u32, low: i16, high: i16)
+fn drives(rt: &impl Print, n: usize, left: u32, right: u32, low: i16, high: i16) -> io::Result<()>
     requires { T (tabled n) × (n ≤ 216) }
 {
     for k in 0..n / 2 {
-        block(n, left, right, driven(n, k, low, high));
-        block(n, left, right, driven(n, k, high, low));
+        block(rt, n, left, right, driven(n, k, low, high))?;
+        block(rt, n, left, right, driven(n, k, high, low))?;
     }
+    Ok(())
 }
 
-fn noises(n: usize, left: u32, right: u32, count: usize)
+fn noises(rt: &impl Print, n: usize, left: u32, right: u32, count: usize) -> io::Result<()>
     requires { (n ≤ 216) × (count ≤ 40) }
 {
     for b in 0..count {
-        block(n, left, right, noise((100 * n + b) as u64, span(b)));
+        block(rt, n, left, right, noise((100 * n + b) as u64, span(b)))?;
     }
+    Ok(())
 }
 
 // The loudest blocks and the quiet ones, between long joints.
-fn two_values(n: usize, low: i16, high: i16)
+fn two_values(rt: &impl Print, n: usize, low: i16, high: i16) -> io::Result<()>
     requires { T (tabled n) × (n ≤ 216) }
 {
-    steadies(n, LONG, LONG, low, high);
-    impulses(n, low, high);
-    drives(n, LONG, LONG, low, high);
+    steadies(rt, n, LONG, LONG, low, high)?;
+    impulses(rt, n, low, high)?;
+    drives(rt, n, LONG, LONG, low, high)
 }
 
 // The loudest samples at place i of a block, and at its mirror.
-fn mirrored(n: usize, left: u32, right: u32, i: usize)
+fn mirrored(rt: &impl Print, n: usize, left: u32, right: u32, i: usize) -> io::Result<()>
     requires { (n ≤ 216) × (i < n) }
 {
-    block(n, left, right, impulse(i, LEAST));
-    block(n, left, right, impulse(i, MOST));
-    block(n, left, right, impulse(n - 1 - i, LEAST));
-    block(n, left, right, impulse(n - 1 - i, MOST));
+    block(rt, n, left, right, impulse(i, LEAST))?;
+    block(rt, n, left, right, impulse(i, MOST))?;
+    block(rt, n, left, right, impulse(n - 1 - i, LEAST))?;
+    block(rt, n, left, right, impulse(n - 1 - i, MOST))
 }
 
 // The first and the last place of each third of a half, which a short joint has in zeros, in its rise and in ones. A third has r places.
-fn thirds(n: usize, r: usize, left: u32, right: u32)
+fn thirds(rt: &impl Print, n: usize, r: usize, left: u32, right: u32) -> io::Result<()>
     requires { (n ≤ 216) × (1 ≤ r) × (6 * r ≤ n) }
 {
-    mirrored(n, left, right, 0);
-    mirrored(n, left, right, r - 1);
-    mirrored(n, left, right, r);
-    mirrored(n, left, right, 2 * r - 1);
-    mirrored(n, left, right, 2 * r);
-    mirrored(n, left, right, 3 * r - 1);
+    mirrored(rt, n, left, right, 0)?;
+    mirrored(rt, n, left, right, r - 1)?;
+    mirrored(rt, n, left, right, r)?;
+    mirrored(rt, n, left, right, 2 * r - 1)?;
+    mirrored(rt, n, left, right, 2 * r)?;
+    mirrored(rt, n, left, right, 3 * r - 1)
 }
 
 // Blocks between joints of which one or both are short.
-fn shaped(n: usize, r: usize, left: u32, right: u32)
+fn shaped(rt: &impl Print, n: usize, r: usize, left: u32, right: u32) -> io::Result<()>
     requires { T (tabled n) × (n ≤ 216) × (1 ≤ r) × (6 * r ≤ n) }
 {
-    steadies(n, left, right, LEAST, MOST);
-    thirds(n, r, left, right);
-    drives(n, left, right, LEAST, MOST);
-    noises(n, left, right, 8);
+    steadies(rt, n, left, right, LEAST, MOST)?;
+    thirds(rt, n, r, left, right)?;
+    drives(rt, n, left, right, LEAST, MOST)?;
+    noises(rt, n, left, right, 8)
 }
 
 // A good block between joints that have no such shape.
-fn misshapen(n: usize, left: u32, right: u32)
+fn misshapen(rt: &impl Print, n: usize, left: u32, right: u32) -> io::Result<()>
     requires { n ≤ 216 }
 {
-    block(n, left, right, noise(9, 32768));
+    block(rt, n, left, right, noise(9, 32768))
 }
 
 // Shapes above 1, and such that are 0 or 1 in 8, 16 or 31 bits.
-fn wrong_shapes(n: usize)
+fn wrong_shapes(rt: &impl Print, n: usize) -> io::Result<()>
     requires { n ≤ 216 }
 {
-    misshapen(n, 2, 0);
-    misshapen(n, 0, 2);
-    misshapen(n, 2, 2);
-    misshapen(n, 2, 1);
-    misshapen(n, 1, 2);
-    misshapen(n, 256, 0);
-    misshapen(n, 0, 257);
-    misshapen(n, 65536, 1);
-    misshapen(n, 1, 65537);
-    misshapen(n, 2147483648, 0);
-    misshapen(n, 0, 2147483649);
-    misshapen(n, 4294967295, 4294967295);
+    misshapen(rt, n, 2, 0)?;
+    misshapen(rt, n, 0, 2)?;
+    misshapen(rt, n, 2, 2)?;
+    misshapen(rt, n, 2, 1)?;
+    misshapen(rt, n, 1, 2)?;
+    misshapen(rt, n, 256, 0)?;
+    misshapen(rt, n, 0, 257)?;
+    misshapen(rt, n, 65536, 1)?;
+    misshapen(rt, n, 1, 65537)?;
+    misshapen(rt, n, 2147483648, 0)?;
+    misshapen(rt, n, 0, 2147483649)?;
+    misshapen(rt, n, 4294967295, 4294967295)
 }
 
 // Buffers that are longer, shorter, empty, or one in place of the other.
-fn lengths_beside(n: usize, m: usize, left: u32, right: u32)
+fn lengths_beside(rt: &impl Print, n: usize, m: usize, left: u32, right: u32) -> io::Result<()>
     requires { (1 ≤ n) × (n ≤ 216) × (1 ≤ m) × (m ≤ 108) }
 {
     let x = noise(n as u64, 32768);
-    each_route(n, left, right, x, n - 1, m);
-    each_route(n, left, right, x, n + 1, m);
-    each_route(n, left, right, x, n, m - 1);
-    each_route(n, left, right, x, n, m + 1);
-    each_route(n, left, right, x, n - 1, m - 1);
-    each_route(n, left, right, x, n + 1, m + 1);
+    each_route(rt, n, left, right, x, n - 1, m)?;
+    each_route(rt, n, left, right, x, n + 1, m)?;
+    each_route(rt, n, left, right, x, n, m - 1)?;
+    each_route(rt, n, left, right, x, n, m + 1)?;
+    each_route(rt, n, left, right, x, n - 1, m - 1)?;
+    each_route(rt, n, left, right, x, n + 1, m + 1)
 }
 
-fn exchanged_lengths(n: usize, m: usize, left: u32, right: u32)
+fn exchanged_lengths(rt: &impl Print, n: usize, m: usize, left: u32, right: u32) -> io::Result<()>
     requires { (n ≤ 216) × (m ≤ 108) }
 {
     let x = noise(n as u64, 32768);
-    each_route(n, left, right, x, 0, 0);
-    each_route(n, left, right, x, 0, m);
-    each_route(n, left, right, x, n, 0);
-    each_route(n, left, right, x, m, n);
-    each_route(n, left, right, x, m, m);
-    each_route(n, left, right, x, n, n);
+    each_route(rt, n, left, right, x, 0, 0)?;
+    each_route(rt, n, left, right, x, 0, m)?;
+    each_route(rt, n, left, right, x, n, 0)?;
+    each_route(rt, n, left, right, x, m, n)?;
+    each_route(rt, n, left, right, x, m, m)?;
+    each_route(rt, n, left, right, x, n, n)
 }
 
-fn wrong_lengths(n: usize, m: usize, left: u32, right: u32)
+fn wrong_lengths(rt: &impl Print, n: usize, m: usize, left: u32, right: u32) -> io::Result<()>
     requires { (1 ≤ n) × (n ≤ 216) × (1 ≤ m) × (m ≤ 108) }
 {
-    lengths_beside(n, m, left, right);
-    exchanged_lengths(n, m, left, right);
+    lengths_beside(rt, n, m, left, right)?;
+    exchanged_lengths(rt, n, m, left, right)
 }
 
 // The buffers of every length under the name of one.
-fn named(n: usize) {
+fn named(rt: &impl Print, n: usize) -> io::Result<()> {
     let x = noise(5, 32768);
-    each_route(n, LONG, LONG, x, 12, 6);
-    each_route(n, LONG, LONG, x, 24, 12);
-    each_route(n, LONG, LONG, x, 36, 18);
-    each_route(n, LONG, LONG, x, 72, 36);
-    each_route(n, LONG, LONG, x, 108, 54);
-    each_route(n, LONG, LONG, x, 216, 108);
+    each_route(rt, n, LONG, LONG, x, 12, 6)?;
+    each_route(rt, n, LONG, LONG, x, 24, 12)?;
+    each_route(rt, n, LONG, LONG, x, 36, 18)?;
+    each_route(rt, n, LONG, LONG, x, 72, 36)?;
+    each_route(rt, n, LONG, LONG, x, 108, 54)?;
+    each_route(rt, n, LONG, LONG, x, 216, 108)
 }
 
 // A length that is not tabled: with buffers of every length, with its own or others, with none, and with shapes above 1.
-fn untabled(n: usize, l: usize, m: usize)
+fn untabled(rt: &impl Print, n: usize, l: usize, m: usize) -> io::Result<()>
     requires { (l ≤ 220) × (m ≤ 220) }
 {
-    named(n);
-    each_route(n, LONG, LONG, noise(6, 32768), l, m);
-    each_route(n, LONG, LONG, noise(7, 32768), 0, 0);
-    each_route(n, LONG, LONG, noise(8, 32768), 80, 80);
-    each_route(n, 2, LONG, noise(6, 32768), l, m);
-    each_route(n, SHORT, 2, noise(7, 32768), 0, 0);
+    named(rt, n)?;
+    each_route(rt, n, LONG, LONG, noise(6, 32768), l, m)?;
+    each_route(rt, n, LONG, LONG, noise(7, 32768), 0, 0)?;
+    each_route(rt, n, LONG, LONG, noise(8, 32768), 80, 80)?;
+    each_route(rt, n, 2, LONG, noise(6, 32768), l, m)?;
+    each_route(rt, n, SHORT, 2, noise(7, 32768), 0, 0)
 }
 
 // Blocks between long joints.
-fn long_joints(n: usize)
+fn long_joints(rt: &impl Print, n: usize) -> io::Result<()>
     requires { T (tabled n) × (n ≤ 216) }
 {
-    block(n, LONG, LONG, steady(0));
-    two_values(n, LEAST, MOST);
-    two_values(n, -1, 1);
-    noises(n, LONG, LONG, 40);
+    block(rt, n, LONG, LONG, steady(0))?;
+    two_values(rt, n, LEAST, MOST)?;
+    two_values(rt, n, -1, 1)?;
+    noises(rt, n, LONG, LONG, 40)
 }
 
-fn short_joints(n: usize, r: usize)
+fn short_joints(rt: &impl Print, n: usize, r: usize) -> io::Result<()>
     requires { T (tabled n) × (n ≤ 216) × (1 ≤ r) × (6 * r ≤ n) }
 {
-    shaped(n, r, LONG, SHORT);
-    shaped(n, r, SHORT, LONG);
-    shaped(n, r, SHORT, SHORT);
+    shaped(rt, n, r, LONG, SHORT)?;
+    shaped(rt, n, r, SHORT, LONG)?;
+    shaped(rt, n, r, SHORT, SHORT)
 }
 
 // Wrong shapes, and wrong lengths beside shapes of either kind.
-fn refused(n: usize, m: usize)
+fn refused(rt: &impl Print, n: usize, m: usize) -> io::Result<()>
     requires { (1 ≤ n) × (n ≤ 216) × (1 ≤ m) × (m ≤ 108) }
 {
-    wrong_shapes(n);
-    wrong_lengths(n, m, LONG, LONG);
-    wrong_lengths(n, m, SHORT, SHORT);
-    wrong_lengths(n, m, 2, LONG);
-    wrong_lengths(n, m, SHORT, 2);
+    wrong_shapes(rt, n)?;
+    wrong_lengths(rt, n, m, LONG, LONG)?;
+    wrong_lengths(rt, n, m, SHORT, SHORT)?;
+    wrong_lengths(rt, n, m, 2, LONG)?;
+    wrong_lengths(rt, n, m, SHORT, 2)
 }
 
-fn offered(n: usize, m: usize, r: usize)
+fn offered(rt: &impl Print, n: usize, m: usize, r: usize) -> io::Result<()>
     requires { T (tabled n) × (1 ≤ n) × (n ≤ 216) × (1 ≤ m) × (m ≤ 108) × (1 ≤ r) × (6 * r ≤ n) }
 {
-    long_joints(n);
-    short_joints(n, r);
-    refused(n, m);
-    named(n);
+    long_joints(rt, n)?;
+    short_joints(rt, n, r)?;
+    refused(rt, n, m)?;
+    named(rt, n)
 }
 
 // Samples v at place i and w at place j, and silence.
-fn pair(n: usize, i: usize, v: i16, j: usize, w: i16)
+fn pair(rt: &impl Print, n: usize, i: usize, v: i16, j: usize, w: i16) -> io::Result<()>
     requires { (n ≤ 216) × (i < 220) × (j < 220) }
 {
     let mut x = impulse(i, v);
     x[j] = w;
-    block(n, LONG, LONG, x);
+    block(rt, n, LONG, LONG, x)
 }
 
 // Blocks in which y, X, A, rB, rC, B + D and B - D meet an exact half below zero, a line for each, as vectors/halves.py finds them.
-fn halves_12() {
-    pair(12, 0, -16384, 1, 2);
-    pair(12, 0, 22648, 1, -31887);
-    pair(12, 0, 29547, 2, 1449);
-    pair(12, 3, 7782, 11, -31277);
-    pair(12, 3, 21368, 11, -27347);
-    pair(12, 1, 10464, 0, -21011);
-    pair(12, 1, -11016, 0, -28904);
+fn halves_12(rt: &impl Print) -> io::Result<()> {
+    pair(rt, 12, 0, -16384, 1, 2)?;
+    pair(rt, 12, 0, 22648, 1, -31887)?;
+    pair(rt, 12, 0, 29547, 2, 1449)?;
+    pair(rt, 12, 3, 7782, 11, -31277)?;
+    pair(rt, 12, 3, 21368, 11, -27347)?;
+    pair(rt, 12, 1, 10464, 0, -21011)?;
+    pair(rt, 12, 1, -11016, 0, -28904)
 }
 
-fn halves_24() {
-    pair(24, 3, -32768, 4, 2);
-    pair(24, 0, -2071, 1, -28753);
-    pair(24, 0, 11518, 1, -2137);
-    pair(24, 7, 15907, 23, -31618);
-    pair(24, 7, 23044, 23, -32498);
-    pair(24, 1, -26072, 0, -31697);
-    pair(24, 1, -17397, 0, -15645);
+fn halves_24(rt: &impl Print) -> io::Result<()> {
+    pair(rt, 24, 3, -32768, 4, 2)?;
+    pair(rt, 24, 0, -2071, 1, -28753)?;
+    pair(rt, 24, 0, 11518, 1, -2137)?;
+    pair(rt, 24, 7, 15907, 23, -31618)?;
+    pair(rt, 24, 7, 23044, 23, -32498)?;
+    pair(rt, 24, 1, -26072, 0, -31697)?;
+    pair(rt, 24, 1, -17397, 0, -15645)
 }
 
-fn halves_36() {
-    pair(36, 0, -24576, 1, 1);
-    pair(36, 0, 26282, 1, -28661);
-    pair(36, 0, 6211, 1, 5600);
-    pair(36, 11, 12948, 35, -31105);
-    pair(36, 11, 7126, 35, -31327);
-    pair(36, 1, -23189, 0, -30886);
-    pair(36, 1, 2398, 0, 2324);
+fn halves_36(rt: &impl Print) -> io::Result<()> {
+    pair(rt, 36, 0, -24576, 1, 1)?;
+    pair(rt, 36, 0, 26282, 1, -28661)?;
+    pair(rt, 36, 0, 6211, 1, 5600)?;
+    pair(rt, 36, 11, 12948, 35, -31105)?;
+    pair(rt, 36, 11, 7126, 35, -31327)?;
+    pair(rt, 36, 1, -23189, 0, -30886)?;
+    pair(rt, 36, 1, 2398, 0, 2324)
 }
 
-fn halves_72() {
-    pair(72, 0, -32768, 1, 1);
-    pair(72, 0, -19629, 1, -29601);
-    pair(72, 0, -26894, 1, 25811);
-    pair(72, 23, 30783, 71, -31555);
-    pair(72, 23, 27462, 71, -32522);
-    pair(72, 1, -25562, 0, -25268);
-    pair(72, 1, 13215, 0, -26755);
+fn halves_72(rt: &impl Print) -> io::Result<()> {
+    pair(rt, 72, 0, -32768, 1, 1)?;
+    pair(rt, 72, 0, -19629, 1, -29601)?;
+    pair(rt, 72, 0, -26894, 1, 25811)?;
+    pair(rt, 72, 23, 30783, 71, -31555)?;
+    pair(rt, 72, 23, 27462, 71, -32522)?;
+    pair(rt, 72, 1, -25562, 0, -25268)?;
+    pair(rt, 72, 1, 13215, 0, -26755)
 }
 
 // By the double route rB and rC of the splits of a - b + c, of rB and of rC, and then what X(3k), X(3k + 1) and X(3k + 2) are rounded from.
-fn double_halves_36() {
-    pair(36, 8, 8352, 24, -29699);
-    pair(36, 8, -10140, 24, -30330);
-    pair(36, 8, -14110, 24, -28476);
-    pair(36, 8, -7153, 24, -32523);
-    pair(36, 8, -5281, 24, -32578);
-    pair(36, 8, 9549, 24, -31886);
-    pair(36, 0, -21191, 1, 1124);
-    pair(36, 0, 25054, 1, -4841);
-    pair(36, 0, 20186, 1, 2861);
+fn double_halves_36(rt: &impl Print) -> io::Result<()> {
+    pair(rt, 36, 8, 8352, 24, -29699)?;
+    pair(rt, 36, 8, -10140, 24, -30330)?;
+    pair(rt, 36, 8, -14110, 24, -28476)?;
+    pair(rt, 36, 8, -7153, 24, -32523)?;
+    pair(rt, 36, 8, -5281, 24, -32578)?;
+    pair(rt, 36, 8, 9549, 24, -31886)?;
+    pair(rt, 36, 0, -21191, 1, 1124)?;
+    pair(rt, 36, 0, 25054, 1, -4841)?;
+    pair(rt, 36, 0, 20186, 1, 2861)
 }
 
-fn double_halves_72() {
-    pair(72, 16, 5259, 48, -25371);
-    pair(72, 16, 10059, 48, -32702);
-    pair(72, 16, -18590, 48, -31185);
-    pair(72, 16, 4408, 48, -32453);
-    pair(72, 16, 21157, 48, -12395);
-    pair(72, 16, 18227, 48, -1200);
-    pair(72, 0, 23299, 1, -31091);
-    pair(72, 0, 23500, 1, 5140);
-    pair(72, 0, 9569, 1, 19302);
+fn double_halves_72(rt: &impl Print) -> io::Result<()> {
+    pair(rt, 72, 16, 5259, 48, -25371)?;
+    pair(rt, 72, 16, 10059, 48, -32702)?;
+    pair(rt, 72, 16, -18590, 48, -31185)?;
+    pair(rt, 72, 16, 4408, 48, -32453)?;
+    pair(rt, 72, 16, 21157, 48, -12395)?;
+    pair(rt, 72, 16, 18227, 48, -1200)?;
+    pair(rt, 72, 0, 23299, 1, -31091)?;
+    pair(rt, 72, 0, 23500, 1, 5140)?;
+    pair(rt, 72, 0, 9569, 1, 19302)
 }
 
 // At the two longest lengths y and X.
-fn halves_long() {
-    pair(108, 0, -16384, 1, 1);
-    pair(108, 0, -27483, 1, -29584);
-    pair(216, 1, -32768, 2, 1);
-    pair(216, 0, 20764, 1, -32597);
+fn halves_long(rt: &impl Print) -> io::Result<()> {
+    pair(rt, 108, 0, -16384, 1, 1)?;
+    pair(rt, 108, 0, -27483, 1, -29584)?;
+    pair(rt, 216, 1, -32768, 2, 1)?;
+    pair(rt, 216, 0, 20764, 1, -32597)
 }
 
-fn halves() {
-    halves_12();
-    halves_24();
-    halves_36();
-    double_halves_36();
-    halves_72();
-    double_halves_72();
-    halves_long();
+fn halves(rt: &impl Print) -> io::Result<()> {
+    halves_12(rt)?;
+    halves_24(rt)?;
+    halves_36(rt)?;
+    double_halves_36(rt)?;
+    halves_72(rt)?;
+    double_halves_72(rt)?;
+    halves_long(rt)
 }
 
-fn main() {
-    offered(12, 6, 2);
-    offered(24, 12, 4);
-    offered(36, 18, 6);
-    offered(72, 36, 12);
-    offered(108, 54, 18);
-    offered(216, 108, 36);
-    untabled(0, 1, 1);
-    untabled(11, 11, 5);
-    untabled(13, 13, 6);
-    untabled(48, 48, 24);
-    untabled(18446744073709551615, 80, 40);
-    untabled(107, 107, 53);
-    untabled(144, 144, 72);
-    untabled(217, 217, 108);
-    untabled(432, 216, 108);
-    halves();
+#[tactic(auto, unfolding(cosine::specs::Kernels::tabled, cosine::specs::Kernels::lengths, arithmetic::specs::Lists::every))]
+fn main(rt: HostRuntime) -> io::Result<()> {
+    offered(&rt, 12, 6, 2)?;
+    offered(&rt, 24, 12, 4)?;
+    offered(&rt, 36, 18, 6)?;
+    offered(&rt, 72, 36, 12)?;
+    offered(&rt, 108, 54, 18)?;
+    offered(&rt, 216, 108, 36)?;
+    untabled(&rt, 0, 1, 1)?;
+    untabled(&rt, 11, 11, 5)?;
+    untabled(&rt, 13, 13, 6)?;
+    untabled(&rt, 48, 48, 24)?;
+    untabled(&rt, 18446744073709551615, 80, 40)?;
+    untabled(&rt, 107, 107, 53)?;
+    untabled(&rt, 144, 144, 72)?;
+    untabled(&rt, 217, 217, 108)?;
+    untabled(&rt, 432, 216, 108)?;
+    halves(&rt)
 }

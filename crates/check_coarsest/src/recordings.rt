@@ -2,6 +2,7 @@
 ghost use Rattle.std.specs.Prelude.{◌≤◌, ◌<◌, ◌^◌};
 
 use crate::{show, show_number};
+use std::io;
 
 // Room for three hops of the longest length.
 const ROOM: usize = 324;
@@ -66,38 +67,65 @@ fn sound(kind: usize, seed: u64, last: usize) -> [i16; ROOM]
     }
 }
 
-fn found(n: usize, hops: usize, x: &[i16], allowed: u32, budget: usize) {
-    show(filter_bank::coarsest_step(n, hops, x, allowed, budget));
+fn found(
+    rt: &impl Print,
+    n: usize,
+    hops: usize,
+    x: &[i16],
+    allowed: u32,
+    budget: usize,
+) -> io::Result<()> {
+    show(rt, filter_bank::coarsest_step(n, hops, x, allowed, budget))
 }
 
 // A line for a distance: no trial, one, two, and as many as there are.
-fn at(kind: usize, n: usize, hops: usize, x: &[i16], allowed: u32) {
-    report::word(b"recording");
-    report::count(kind);
-    report::count(n);
-    report::count(hops);
-    show_number(allowed);
-    found(n, hops, x, allowed, 0);
-    found(n, hops, x, allowed, 1);
-    found(n, hops, x, allowed, 2);
-    found(n, hops, x, allowed, 2000);
-    report::end();
+fn at(
+    rt: &impl Print,
+    kind: usize,
+    n: usize,
+    hops: usize,
+    x: &[i16],
+    allowed: u32,
+) -> io::Result<()> {
+    report::word(rt, b"recording")?;
+    report::count(rt, kind)?;
+    report::count(rt, n)?;
+    report::count(rt, hops)?;
+    show_number(rt, allowed)?;
+    found(rt, n, hops, x, allowed, 0)?;
+    found(rt, n, hops, x, allowed, 1)?;
+    found(rt, n, hops, x, allowed, 2)?;
+    found(rt, n, hops, x, allowed, 2000)?;
+    report::end(rt)
 }
 
-fn every_distance(kind: usize, n: usize, hops: usize, x: &[i16]) {
+fn every_distance(
+    rt: &impl Print,
+    kind: usize,
+    n: usize,
+    hops: usize,
+    x: &[i16],
+) -> io::Result<()> {
     for allowed in 0..33 {
-        at(kind, n, hops, x, allowed);
+        at(rt, kind, n, hops, x, allowed)?;
     }
+    Ok(())
 }
 
-fn some_distances(kind: usize, n: usize, hops: usize, x: &[i16]) {
-    at(kind, n, hops, x, 0);
-    at(kind, n, hops, x, 1);
-    at(kind, n, hops, x, 2);
-    at(kind, n, hops, x, 3);
-    at(kind, n, hops, x, 5);
-    at(kind, n, hops, x, 31);
-    at(kind, n, hops, x, 32);
+fn some_distances(
+    rt: &impl Print,
+    kind: usize,
+    n: usize,
+    hops: usize,
+    x: &[i16],
+) -> io::Result<()> {
+    at(rt, kind, n, hops, x, 0)?;
+    at(rt, kind, n, hops, x, 1)?;
+    at(rt, kind, n, hops, x, 2)?;
+    at(rt, kind, n, hops, x, 3)?;
+    at(rt, kind, n, hops, x, 5)?;
+    at(rt, kind, n, hops, x, 31)?;
+    at(rt, kind, n, hops, x, 32)
 }
 
 // The number of samples of a recording.
@@ -109,62 +137,72 @@ fn samples(n: usize, hops: usize) -> usize
 }
 
 // At every distance, or at a few.
-fn at_distances(is_every: bool, kind: usize, n: usize, hops: usize, x: &[i16]) {
+fn at_distances(
+    rt: &impl Print,
+    is_every: bool,
+    kind: usize,
+    n: usize,
+    hops: usize,
+    x: &[i16],
+) -> io::Result<()> {
     if is_every {
-        every_distance(kind, n, hops, x);
+        every_distance(rt, kind, n, hops, x)?;
     } else {
-        some_distances(kind, n, hops, x);
+        some_distances(rt, kind, n, hops, x)?;
     }
+    Ok(())
 }
 
-fn recorded(is_every: bool, kind: usize, n: usize, hops: usize)
+fn recorded(rt: &impl Print, is_every: bool, kind: usize, n: usize, hops: usize) -> io::Result<()>
     requires { (12 ≤ n) × (n ≤ 216) × (1 ≤ hops) × (hops ≤ 3) }
 {
     let l = samples(n, hops);
     let x = sound(kind, (n + hops) as u64, l - 1);
-    at_distances(is_every, kind, n, hops, &x[..l]);
+    at_distances(rt, is_every, kind, n, hops, &x[..l])
 }
 
 // Every kind at one to three hops and every distance, ..
-fn short(n: usize)
+fn short(rt: &impl Print, n: usize) -> io::Result<()>
     requires { (12 ≤ n) × (n ≤ 216) }
 {
     for kind in 0..KINDS {
-        recorded(true, kind, n, 1);
-        recorded(true, kind, n, 2);
-        recorded(true, kind, n, 3);
+        recorded(rt, true, kind, n, 1)?;
+        recorded(rt, true, kind, n, 2)?;
+        recorded(rt, true, kind, n, 3)?;
     }
+    Ok(())
 }
 
 // .. and at one of these numbers of hops and a few distances.
-fn long(n: usize)
+fn long(rt: &impl Print, n: usize) -> io::Result<()>
     requires { (12 ≤ n) × (n ≤ 216) }
 {
     for kind in 0..KINDS {
-        recorded(false, kind, n, 1 + kind % 3);
+        recorded(rt, false, kind, n, 1 + kind % 3)?;
     }
+    Ok(())
 }
 
-fn far() {
-    every_distance(KINDS, 12, 1, &FAR);
-    every_distance(KINDS, 12, 2, &FARTHER);
-    every_distance(KINDS, 24, 1, &FAR_AT_24);
+fn far(rt: &impl Print) -> io::Result<()> {
+    every_distance(rt, KINDS, 12, 1, &FAR)?;
+    every_distance(rt, KINDS, 12, 2, &FARTHER)?;
+    every_distance(rt, KINDS, 24, 1, &FAR_AT_24)
 }
 
 // The most hops, silent but for the last sample: a step fails there alone.
-fn longest() {
+fn longest(rt: &impl Print) -> io::Result<()> {
     let mut x = [0; MANY];
     x[MANY - 1] = 32767;
-    at(KINDS + 1, 12, 4095, &x, 1);
+    at(rt, KINDS + 1, 12, 4095, &x, 1)
 }
 
-pub fn recordings() {
-    short(12);
-    short(24);
-    long(36);
-    long(72);
-    long(108);
-    long(216);
-    far();
-    longest();
+pub fn recordings(rt: &impl Print) -> io::Result<()> {
+    short(rt, 12)?;
+    short(rt, 24)?;
+    long(rt, 36)?;
+    long(rt, 72)?;
+    long(rt, 108)?;
+    long(rt, 216)?;
+    far(rt)?;
+    longest(rt)
 }

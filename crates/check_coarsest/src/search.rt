@@ -2,10 +2,11 @@
 ghost use Rattle.std.specs.Prelude.{◌≤◌};
 
 use crate::show_number;
+use std::io;
 use step_search::Found;
 
 // Which steps pass: those up to one, that one alone, every other one from it on, or none.
-#[derive(Drop)]
+#[derive(Clone, Copy)]
 enum StandIn {
     UpTo(u32),
     Only(u32),
@@ -35,91 +36,93 @@ fn searched(trial: StandIn, allowed: u32, budget: usize) -> Found
     step_search::without_success(s)
 }
 
-fn show_trial(trial: StandIn) {
+fn show_trial(rt: &impl Print, trial: StandIn) -> io::Result<()> {
     match trial {
         StandIn::UpTo(most) => {
-            report::word(b"up");
-            show_number(most);
+            report::word(rt, b"up")?;
+            show_number(rt, most)?;
         }
         StandIn::Only(one) => {
-            report::word(b"only");
-            show_number(one);
+            report::word(rt, b"only")?;
+            show_number(rt, one)?;
         }
         StandIn::Every(other) => {
-            report::word(b"every");
-            show_number(other);
+            report::word(rt, b"every")?;
+            show_number(rt, other)?;
         }
-        StandIn::Never => report::word(b"never"),
+        StandIn::Never => report::word(rt, b"never")?,
     }
+    Ok(())
 }
 
-fn found(trial: StandIn, allowed: u32, budget: usize)
+fn found(rt: &impl Print, trial: StandIn, allowed: u32, budget: usize) -> io::Result<()>
     requires { allowed ≤ 32 }
 {
     let f = searched(trial, allowed, budget);
-    show_number(f.step);
-    show_number(f.trials);
-    show_number(f.untried);
+    show_number(rt, f.step)?;
+    show_number(rt, f.trials)?;
+    show_number(rt, f.untried)
 }
 
 // A line for a distance: no trial, few, one fewer than there are steps above the least sure one, as many, more, and such as are 0 where upper bits are lost.
-fn at(trial: StandIn, allowed: u32)
+fn at(rt: &impl Print, trial: StandIn, allowed: u32) -> io::Result<()>
     requires { allowed ≤ 32 }
 {
-    show_trial(trial);
-    show_number(allowed);
-    found(trial, allowed, 0);
-    found(trial, allowed, 1);
-    found(trial, allowed, 2);
-    found(trial, allowed, 17);
-    found(trial, allowed, 1008);
-    found(trial, allowed, 1009);
-    found(trial, allowed, 2000);
-    found(trial, allowed, 4294967296);
-    found(trial, allowed, 18446744073709551615);
-    report::end();
+    show_trial(rt, trial)?;
+    show_number(rt, allowed)?;
+    found(rt, trial, allowed, 0)?;
+    found(rt, trial, allowed, 1)?;
+    found(rt, trial, allowed, 2)?;
+    found(rt, trial, allowed, 17)?;
+    found(rt, trial, allowed, 1008)?;
+    found(rt, trial, allowed, 1009)?;
+    found(rt, trial, allowed, 2000)?;
+    found(rt, trial, allowed, 4294967296)?;
+    found(rt, trial, allowed, 18446744073709551615)?;
+    report::end(rt)
 }
 
 // Up to a step: the first trials, the last that a budget allows, and the steps about the sure one.
-fn thresholds(allowed: u32)
+fn thresholds(rt: &impl Print, allowed: u32) -> io::Result<()>
     requires { allowed ≤ 32 }
 {
-    at(StandIn::UpTo(1024), allowed);
-    at(StandIn::UpTo(1023), allowed);
-    at(StandIn::UpTo(1022), allowed);
-    at(StandIn::UpTo(1008), allowed);
-    at(StandIn::UpTo(1007), allowed);
-    at(StandIn::UpTo(600), allowed);
-    at(StandIn::UpTo(17), allowed);
-    at(StandIn::UpTo(16), allowed);
-    at(StandIn::UpTo(32 * allowed + 16), allowed);
-    at(StandIn::UpTo(32 * allowed + 15), allowed);
+    at(rt, StandIn::UpTo(1024), allowed)?;
+    at(rt, StandIn::UpTo(1023), allowed)?;
+    at(rt, StandIn::UpTo(1022), allowed)?;
+    at(rt, StandIn::UpTo(1008), allowed)?;
+    at(rt, StandIn::UpTo(1007), allowed)?;
+    at(rt, StandIn::UpTo(600), allowed)?;
+    at(rt, StandIn::UpTo(17), allowed)?;
+    at(rt, StandIn::UpTo(16), allowed)?;
+    at(rt, StandIn::UpTo(32 * allowed + 16), allowed)?;
+    at(rt, StandIn::UpTo(32 * allowed + 15), allowed)
 }
 
 // A step alone: above the sure one, next to it, itself, which is not tried, and below it.
-fn alone(allowed: u32)
+fn alone(rt: &impl Print, allowed: u32) -> io::Result<()>
     requires { allowed ≤ 32 }
 {
-    at(StandIn::Only(1024), allowed);
-    at(StandIn::Only(600), allowed);
-    at(StandIn::Only(32 * allowed + 16), allowed);
-    at(StandIn::Only(32 * allowed + 15), allowed);
-    at(StandIn::Only(1), allowed);
+    at(rt, StandIn::Only(1024), allowed)?;
+    at(rt, StandIn::Only(600), allowed)?;
+    at(rt, StandIn::Only(32 * allowed + 16), allowed)?;
+    at(rt, StandIn::Only(32 * allowed + 15), allowed)?;
+    at(rt, StandIn::Only(1), allowed)
 }
 
 // Where none passes, all above the sure step have failed once the budget allows it: no recording does that.
-fn at_distance(allowed: u32)
+fn at_distance(rt: &impl Print, allowed: u32) -> io::Result<()>
     requires { allowed ≤ 32 }
 {
-    thresholds(allowed);
-    alone(allowed);
-    at(StandIn::Every(0), allowed);
-    at(StandIn::Every(1), allowed);
-    at(StandIn::Never, allowed);
+    thresholds(rt, allowed)?;
+    alone(rt, allowed)?;
+    at(rt, StandIn::Every(0), allowed)?;
+    at(rt, StandIn::Every(1), allowed)?;
+    at(rt, StandIn::Never, allowed)
 }
 
-pub fn searches() {
+pub fn searches(rt: &impl Print) -> io::Result<()> {
     for allowed in 0..33 {
-        at_distance(allowed);
+        at_distance(rt, allowed)?;
     }
+    Ok(())
 }

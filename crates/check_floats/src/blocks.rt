@@ -2,6 +2,7 @@
 ghost use Rattle.std.specs.Prelude.{◌≤◌, ◌<◌, ◌^◌, length};
 
 use crate::{ABOVE, BELOW, LEAST, MOST, ROOM, pattern, show, with};
+use std::io;
 
 // What the sum of a block's patterns is taken modulo.
 const PRIME: u64 = 1000003;
@@ -66,42 +67,43 @@ fn sum(out: &[f64]) -> u64
 }
 
 // What both calls answer.
-fn told(n: usize, x: &[i32], out: &mut [f64])
+fn told(rt: &impl Print, n: usize, x: &[i32], out: &mut [f64]) -> io::Result<()>
     requires { length out.old ≤ 108 }
 {
-    report::count(filter_bank::floats(n, x, out) as usize);
-    report::count(sum(out) as usize);
+    report::count(rt, filter_bank::floats(n, x, out) as usize)?;
+    report::count(rt, sum(out) as usize)?;
     let ends = filter_bank::highest_lowest(n, x);
-    report::count(ends.code as usize);
-    show(ends.pair.highest);
-    show(ends.pair.lowest);
-    report::end();
+    report::count(rt, ends.code as usize)?;
+    show(rt, ends.pair.highest)?;
+    show(rt, ends.pair.lowest)?;
+    report::end(rt)
 }
 
-fn block(n: usize, m: usize, kind: usize)
+fn block(rt: &impl Print, n: usize, m: usize, kind: usize) -> io::Result<()>
     requires { (1 ≤ m) × (m ≤ 108) }
 {
-    report::word(b"block");
-    report::count(n);
-    report::count(kind);
+    report::word(rt, b"block")?;
+    report::count(rt, n)?;
+    report::count(rt, kind)?;
     let x = made(kind, m);
     let mut out = [9.0f64; ROOM];
-    told(n, &x[..m], &mut out[..m]);
+    told(rt, n, &x[..m], &mut out[..m])
 }
 
-fn every_kind(n: usize, m: usize)
+fn every_kind(rt: &impl Print, n: usize, m: usize) -> io::Result<()>
     requires { (1 ≤ m) × (m ≤ 108) }
 {
     for kind in 0..KINDS {
-        block(n, m, kind);
+        block(rt, n, m, kind)?;
     }
+    Ok(())
 }
 
-pub fn blocks() {
-    every_kind(12, 6);
-    every_kind(24, 12);
-    every_kind(36, 18);
-    every_kind(72, 36);
-    every_kind(108, 54);
-    every_kind(216, 108);
+pub fn blocks(rt: &impl Print) -> io::Result<()> {
+    every_kind(rt, 12, 6)?;
+    every_kind(rt, 24, 12)?;
+    every_kind(rt, 36, 18)?;
+    every_kind(rt, 72, 36)?;
+    every_kind(rt, 108, 54)?;
+    every_kind(rt, 216, 108)
 }

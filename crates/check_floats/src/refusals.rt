@@ -3,6 +3,7 @@ ghost use Rattle.std.specs.Prelude.{◌≤◌};
 
 use crate::{ABOVE, ROOM, show, with};
 use float_calls::Ends;
+use std::io;
 
 // Room for the highest and the lowest and one more.
 const ENDS: usize = 3;
@@ -21,26 +22,33 @@ fn kept(room: &[f64]) -> usize {
 }
 
 // The answer by value.
-fn by_value(e: Ends) {
-    report::count(e.code as usize);
-    show(e.pair.highest);
-    show(e.pair.lowest);
+fn by_value(rt: &impl Print, e: Ends) -> io::Result<()> {
+    report::count(rt, e.code as usize)?;
+    show(rt, e.pair.highest)?;
+    show(rt, e.pair.lowest)
 }
 
 // What the calls are asked, and what they answer.
-fn told(n: usize, x: &[i32], out: &mut [f64], ends: &mut [f64], bad: usize) {
-    report::word(b"refused");
-    report::count(n);
-    report::count(x.len());
-    report::count(out.len());
-    report::count(ends.len());
-    report::count(bad);
-    report::count(filter_bank::floats(n, x, out) as usize);
-    report::count(kept(out));
-    report::count(filter_bank::put_ends(n, x, ends) as usize);
-    report::count(kept(ends));
-    by_value(filter_bank::highest_lowest(n, x));
-    report::end();
+fn told(
+    rt: &impl Print,
+    n: usize,
+    x: &[i32],
+    out: &mut [f64],
+    ends: &mut [f64],
+    bad: usize,
+) -> io::Result<()> {
+    report::word(rt, b"refused")?;
+    report::count(rt, n)?;
+    report::count(rt, x.len())?;
+    report::count(rt, out.len())?;
+    report::count(rt, ends.len())?;
+    report::count(rt, bad)?;
+    report::count(rt, filter_bank::floats(n, x, out) as usize)?;
+    report::count(rt, kept(out))?;
+    report::count(rt, filter_bank::put_ends(n, x, ends) as usize)?;
+    report::count(rt, kept(ends))?;
+    by_value(rt, filter_bank::highest_lowest(n, x))?;
+    report::end(rt)
 }
 
 // Small coefficients, of which the last of l is out of range where `bad` is 1.
@@ -57,25 +65,25 @@ fn offered(l: usize, bad: usize) -> [i32; ROOM]
     with(x, l - 1, ABOVE)
 }
 
-fn asked(n: usize, lx: usize, lo: usize, lp: usize, bad: usize)
+fn asked(rt: &impl Print, n: usize, lx: usize, lo: usize, lp: usize, bad: usize) -> io::Result<()>
     requires { (lx ≤ 109) × (lo ≤ 109) × (lp ≤ 3) }
 {
     let x = offered(lx, bad);
     let mut out = [BEFORE; ROOM];
     let mut ends = [BEFORE; ENDS];
-    told(n, &x[..lx], &mut out[..lo], &mut ends[..lp], bad);
+    told(rt, n, &x[..lx], &mut out[..lo], &mut ends[..lp], bad)
 }
 
 // Each room for the ends, with coefficients in range and not.
-fn at_lengths(n: usize, lx: usize, lo: usize)
+fn at_lengths(rt: &impl Print, n: usize, lx: usize, lo: usize) -> io::Result<()>
     requires { (lx ≤ 109) × (lo ≤ 109) }
 {
-    asked(n, lx, lo, 1, 0);
-    asked(n, lx, lo, 1, 1);
-    asked(n, lx, lo, 2, 0);
-    asked(n, lx, lo, 2, 1);
-    asked(n, lx, lo, 3, 0);
-    asked(n, lx, lo, 3, 1);
+    asked(rt, n, lx, lo, 1, 0)?;
+    asked(rt, n, lx, lo, 1, 1)?;
+    asked(rt, n, lx, lo, 2, 0)?;
+    asked(rt, n, lx, lo, 2, 1)?;
+    asked(rt, n, lx, lo, 3, 0)?;
+    asked(rt, n, lx, lo, 3, 1)
 }
 
 fn one_less(m: usize) -> usize
@@ -86,35 +94,35 @@ fn one_less(m: usize) -> usize
 }
 
 // Room for fewer floats than m, for m and for more.
-fn rooms(n: usize, lx: usize, m: usize)
+fn rooms(rt: &impl Print, n: usize, lx: usize, m: usize) -> io::Result<()>
     requires { (lx ≤ 109) × (m ≤ 108) }
 {
-    at_lengths(n, lx, one_less(m));
-    at_lengths(n, lx, m);
-    at_lengths(n, lx, m + 1);
+    at_lengths(rt, n, lx, one_less(m))?;
+    at_lengths(rt, n, lx, m)?;
+    at_lengths(rt, n, lx, m + 1)
 }
 
 // Fewer coefficients than m, m and more.
-fn lengths(n: usize, m: usize)
+fn lengths(rt: &impl Print, n: usize, m: usize) -> io::Result<()>
     requires { m ≤ 108 }
 {
-    rooms(n, one_less(m), m);
-    rooms(n, m, m);
-    rooms(n, m + 1, m);
+    rooms(rt, n, one_less(m), m)?;
+    rooms(rt, n, m, m)?;
+    rooms(rt, n, m + 1, m)
 }
 
-pub fn refusals() {
-    lengths(0, 0);
-    lengths(1, 0);
-    lengths(11, 5);
-    lengths(12, 6);
-    lengths(13, 6);
-    lengths(24, 12);
-    lengths(36, 18);
-    lengths(72, 36);
-    lengths(108, 54);
-    lengths(144, 72);
-    lengths(216, 108);
-    lengths(217, 108);
-    lengths(432, 108);
+pub fn refusals(rt: &impl Print) -> io::Result<()> {
+    lengths(rt, 0, 0)?;
+    lengths(rt, 1, 0)?;
+    lengths(rt, 11, 5)?;
+    lengths(rt, 12, 6)?;
+    lengths(rt, 13, 6)?;
+    lengths(rt, 24, 12)?;
+    lengths(rt, 36, 18)?;
+    lengths(rt, 72, 36)?;
+    lengths(rt, 108, 54)?;
+    lengths(rt, 144, 72)?;
+    lengths(rt, 216, 108)?;
+    lengths(rt, 217, 108)?;
+    lengths(rt, 432, 108)
 }

@@ -1,9 +1,12 @@
 // Step tables and levels through the public calls, compared with what vectors/levels.py makes from the definitions.
+#![tactic(auto)]
+
 ghost use Rattle.std.specs.Prelude.{◌≡◌, ◌≤◌, ◌<◌, ◌^◌, length};
 
 use analysis::Route;
 use report::noise::random;
 use state_calls::ENTRIES;
+use std::io;
 use stream::Stream;
 
 // Room for a table of 108 lines.
@@ -246,169 +249,177 @@ fn put_lines(
 }
 
 // The distance that a table tells.
-fn show_told(route: Route, n: usize, table: &[u8]) {
+fn show_told(rt: &impl Print, route: Route, n: usize, table: &[u8]) -> io::Result<()> {
     let told = level_calls::told_distance(route, n, table);
-    report::count(told.code as usize);
-    report::count(told.distance as usize);
+    report::count(rt, told.code as usize)?;
+    report::count(rt, told.distance as usize)
 }
 
-fn tried(n: usize, table: &[u8], x: &[i32], out: &mut [i32]) {
-    report::count(level_calls::quantise(n, table, x, out) as usize);
-    report::count(level_calls::dequantise(n, table, x, out) as usize);
+fn tried(rt: &impl Print, n: usize, table: &[u8], x: &[i32], out: &mut [i32]) -> io::Result<()> {
+    report::count(rt, level_calls::quantise(n, table, x, out) as usize)?;
+    report::count(rt, level_calls::dequantise(n, table, x, out) as usize)
 }
 
-fn try_levels(n: usize, m: usize, table: &[u8])
+fn try_levels(rt: &impl Print, n: usize, m: usize, table: &[u8]) -> io::Result<()>
     requires { m ≤ 108 }
 {
     let x = [77; ROOM];
     let mut out = [12345; ROOM];
-    tried(n, table, &x[..m], &mut out[..m]);
+    tried(rt, n, table, &x[..m], &mut out[..m])
 }
 
 // What step-table prints for a length as it is typed.
-fn show_report(number: &[u8], table: &[u8]) {
+fn show_report(rt: &impl Print, number: &[u8], table: &[u8]) -> io::Result<()> {
     let mut out = [0; table_report::ROOM];
     let end = table_report::report(number, table, &mut out);
-    report::word(&out[..end]);
+    report::word(rt, &out[..end])
 }
 
 // The same for a length by its digits.
-fn show_report_at(n: usize, table: &[u8]) {
+#[tactic(auto, using(text::specs::BufferLaws::put_length, text::specs::RefusalLaws::decimal_machine))]
+fn show_report_at(rt: &impl Print, n: usize, table: &[u8]) -> io::Result<()> {
     let mut typed = [0; TYPED];
     let end = text::number::put_digits(n as u64, &mut typed, 0);
-    show_report(&typed[..end], table);
+    show_report(rt, &typed[..end], table)
 }
 
 // A table by its length and its sum, what it tells, the numbers of the calls on a block and on levels; and its report, which has the line of a refusal.
-fn judge(n: usize, m: usize, table: &[u8])
+fn judge(rt: &impl Print, n: usize, m: usize, table: &[u8]) -> io::Result<()>
     requires { (6 ≤ m) × (m ≤ 108) }
 {
-    report::word(b"table");
-    report::count(n);
-    report::count(table.len());
-    report::count(report::sum_bytes(table) as usize);
-    show_told(Route::Direct, n, table);
-    show_told(Route::Short, n, table);
-    show_told(Route::Double, n, table);
-    try_levels(n, m, table);
-    report::end();
-    show_report_at(n, table);
+    report::word(rt, b"table")?;
+    report::count(rt, n)?;
+    report::count(rt, table.len())?;
+    report::count(rt, report::sum_bytes(table) as usize)?;
+    show_told(rt, Route::Direct, n, table)?;
+    show_told(rt, Route::Short, n, table)?;
+    show_told(rt, Route::Double, n, table)?;
+    try_levels(rt, n, m, table)?;
+    report::end(rt)?;
+    show_report_at(rt, n, table)
 }
 
-fn framed(n: usize, m: usize, before: &[u8], line: &[u8], after: &[u8])
+fn framed(
+    rt: &impl Print,
+    n: usize,
+    m: usize,
+    before: &[u8],
+    line: &[u8],
+    after: &[u8],
+) -> io::Result<()>
     requires { (6 ≤ m) × (m ≤ 108) }
 {
     let mut buf = room();
     let a = put(&mut buf, 0, m, before);
     let b = put(&mut buf, a, m, line);
     let end = put(&mut buf, b, m, after);
-    judge(n, m, &buf[..end]);
+    judge(rt, n, m, &buf[..end])
 }
 
-fn judged(n: usize, m: usize, text: &[u8])
+fn judged(rt: &impl Print, n: usize, m: usize, text: &[u8]) -> io::Result<()>
     requires { (6 ≤ m) × (m ≤ 108) }
 {
-    framed(n, m, text, b"", b"");
+    framed(rt, n, m, text, b"", b"")
 }
 
 // A line that is none: alone, first, between others, last, behind an overlap, and behind a gap. 9 everywhere.
-fn malformed(n: usize, m: usize, line: &[u8])
+fn malformed(rt: &impl Print, n: usize, m: usize, line: &[u8]) -> io::Result<()>
     requires { (6 ≤ m) × (m ≤ 108) }
 {
-    framed(n, m, b"", line, b"");
-    framed(n, m, b"", line, b"0,E,1\n");
-    framed(n, m, b"0,0,1\n", line, b"1,E,65536\n");
-    framed(n, m, b"0,E,3\n", line, b"");
-    framed(n, m, b"0,H,3\nH,E,2\n", line, b"");
-    framed(n, m, b"1,E,2\n", line, b"0,0,1\n");
+    framed(rt, n, m, b"", line, b"")?;
+    framed(rt, n, m, b"", line, b"0,E,1\n")?;
+    framed(rt, n, m, b"0,0,1\n", line, b"1,E,65536\n")?;
+    framed(rt, n, m, b"0,E,3\n", line, b"")?;
+    framed(rt, n, m, b"0,H,3\nH,E,2\n", line, b"")?;
+    framed(rt, n, m, b"1,E,2\n", line, b"0,0,1\n")
 }
 
 // Fields that are missing or too many.
-fn wrong_fields(n: usize, m: usize)
+fn wrong_fields(rt: &impl Print, n: usize, m: usize) -> io::Result<()>
     requires { (6 ≤ m) × (m ≤ 108) }
 {
-    malformed(n, m, b"\n");
-    malformed(n, m, b",\n");
-    malformed(n, m, b",,\n");
-    malformed(n, m, b"0\n");
-    malformed(n, m, b"0,H\n");
-    malformed(n, m, b"0,H,3,\n");
-    malformed(n, m, b"0,H,3,4\n");
-    malformed(n, m, b",H,3\n");
-    malformed(n, m, b"0,,3\n");
-    malformed(n, m, b"0,H,\n");
-    malformed(n, m, b"0;H;3\n");
-    malformed(n, m, b"0,H,3");
+    malformed(rt, n, m, b"\n")?;
+    malformed(rt, n, m, b",\n")?;
+    malformed(rt, n, m, b",,\n")?;
+    malformed(rt, n, m, b"0\n")?;
+    malformed(rt, n, m, b"0,H\n")?;
+    malformed(rt, n, m, b"0,H,3,\n")?;
+    malformed(rt, n, m, b"0,H,3,4\n")?;
+    malformed(rt, n, m, b",H,3\n")?;
+    malformed(rt, n, m, b"0,,3\n")?;
+    malformed(rt, n, m, b"0,H,\n")?;
+    malformed(rt, n, m, b"0;H;3\n")?;
+    malformed(rt, n, m, b"0,H,3")
 }
 
 // Bytes that are no part of a number.
-fn wrong_bytes(n: usize, m: usize)
+fn wrong_bytes(rt: &impl Print, n: usize, m: usize) -> io::Result<()>
     requires { (6 ≤ m) × (m ≤ 108) }
 {
-    malformed(n, m, b" 0,H,3\n");
-    malformed(n, m, b"0, H,3\n");
-    malformed(n, m, b"0,H,3 \n");
-    malformed(n, m, b"0,H,3\r\n");
-    malformed(n, m, b"\t0,H,3\n");
-    malformed(n, m, b"0,H,3\x00\n");
-    malformed(n, m, b"0,\xffH,3\n");
-    malformed(n, m, b"0,H,3.\n");
-    malformed(n, m, b"0,H,1e3\n");
-    malformed(n, m, b"first,last,step\n");
-    malformed(n, m, b"x");
+    malformed(rt, n, m, b" 0,H,3\n")?;
+    malformed(rt, n, m, b"0, H,3\n")?;
+    malformed(rt, n, m, b"0,H,3 \n")?;
+    malformed(rt, n, m, b"0,H,3\r\n")?;
+    malformed(rt, n, m, b"\t0,H,3\n")?;
+    malformed(rt, n, m, b"0,H,3\x00\n")?;
+    malformed(rt, n, m, b"0,\xffH,3\n")?;
+    malformed(rt, n, m, b"0,H,3.\n")?;
+    malformed(rt, n, m, b"0,H,1e3\n")?;
+    malformed(rt, n, m, b"first,last,step\n")?;
+    malformed(rt, n, m, b"x")
 }
 
 // Numbers that are not in their form: signs and leading zeros, and too many digits or none.
-fn wrong_forms(n: usize, m: usize)
+fn wrong_forms(rt: &impl Print, n: usize, m: usize) -> io::Result<()>
     requires { (6 ≤ m) × (m ≤ 108) }
 {
-    malformed(n, m, b"+0,H,3\n");
-    malformed(n, m, b"0,+H,3\n");
-    malformed(n, m, b"0,H,+3\n");
-    malformed(n, m, b"00,H,3\n");
-    malformed(n, m, b"0,0H,3\n");
-    malformed(n, m, b"0,H,03\n");
-    malformed(n, m, b"-0,H,3\n");
-    malformed(n, m, b"0,-0,3\n");
-    malformed(n, m, b"0,H,-0\n");
+    malformed(rt, n, m, b"+0,H,3\n")?;
+    malformed(rt, n, m, b"0,+H,3\n")?;
+    malformed(rt, n, m, b"0,H,+3\n")?;
+    malformed(rt, n, m, b"00,H,3\n")?;
+    malformed(rt, n, m, b"0,0H,3\n")?;
+    malformed(rt, n, m, b"0,H,03\n")?;
+    malformed(rt, n, m, b"-0,H,3\n")?;
+    malformed(rt, n, m, b"0,-0,3\n")?;
+    malformed(rt, n, m, b"0,H,-0\n")
 }
 
-fn wrong_digits(n: usize, m: usize)
+fn wrong_digits(rt: &impl Print, n: usize, m: usize) -> io::Result<()>
     requires { (6 ≤ m) × (m ≤ 108) }
 {
-    malformed(n, m, b"--1,H,3\n");
-    malformed(n, m, b"0,H,-\n");
-    malformed(n, m, b"0,H,100000\n");
-    malformed(n, m, b"0,H,4294967299\n");
+    malformed(rt, n, m, b"--1,H,3\n")?;
+    malformed(rt, n, m, b"0,H,-\n")?;
+    malformed(rt, n, m, b"0,H,100000\n")?;
+    malformed(rt, n, m, b"0,H,4294967299\n")
 }
 
 // Steps that are out of range, and first or last ones.
-fn wrong_steps(n: usize, m: usize)
+fn wrong_steps(rt: &impl Print, n: usize, m: usize) -> io::Result<()>
     requires { (6 ≤ m) × (m ≤ 108) }
 {
-    malformed(n, m, b"0,H,0\n");
-    malformed(n, m, b"0,H,-1\n");
-    malformed(n, m, b"0,H,65537\n");
-    malformed(n, m, b"0,H,99999\n");
-    malformed(n, m, b"0,H,-65535\n");
+    malformed(rt, n, m, b"0,H,0\n")?;
+    malformed(rt, n, m, b"0,H,-1\n")?;
+    malformed(rt, n, m, b"0,H,65537\n")?;
+    malformed(rt, n, m, b"0,H,99999\n")?;
+    malformed(rt, n, m, b"0,H,-65535\n")
 }
 
-fn wrong_places(n: usize, m: usize)
+fn wrong_places(rt: &impl Print, n: usize, m: usize) -> io::Result<()>
     requires { (6 ≤ m) × (m ≤ 108) }
 {
-    malformed(n, m, b"-1,H,3\n");
-    malformed(n, m, b"-H,H,3\n");
-    malformed(n, m, b"I,H,3\n");
-    malformed(n, m, b"0,-1,3\n");
-    malformed(n, m, b"0,M,3\n");
-    malformed(n, m, b"M,M,3\n");
-    malformed(n, m, b"0,W,3\n");
-    malformed(n, m, b"0,B,3\n");
-    malformed(n, m, b"65536,W,3\n");
+    malformed(rt, n, m, b"-1,H,3\n")?;
+    malformed(rt, n, m, b"-H,H,3\n")?;
+    malformed(rt, n, m, b"I,H,3\n")?;
+    malformed(rt, n, m, b"0,-1,3\n")?;
+    malformed(rt, n, m, b"0,M,3\n")?;
+    malformed(rt, n, m, b"M,M,3\n")?;
+    malformed(rt, n, m, b"0,W,3\n")?;
+    malformed(rt, n, m, b"0,B,3\n")?;
+    malformed(rt, n, m, b"65536,W,3\n")
 }
 
 // A table of two lines, the first up to `last` and the other from `first` on.
-fn pair(n: usize, m: usize, last: usize, first: usize)
+fn pair(rt: &impl Print, n: usize, m: usize, last: usize, first: usize) -> io::Result<()>
     requires { (6 ≤ m) × (m ≤ 108) }
 {
     let mut buf = room();
@@ -417,132 +428,140 @@ fn pair(n: usize, m: usize, last: usize, first: usize)
     let c = put(&mut buf, b, m, b",3\n");
     let d = put_count(&mut buf, c, first);
     let end = put(&mut buf, d, m, b",E,2\n");
-    judge(n, m, &buf[..end]);
+    judge(rt, n, m, &buf[..end])
 }
 
 // A joint behind coefficient j: kept, overlapping by one or wholly, and with a gap.
-fn joint(n: usize, m: usize, j: usize)
+fn joint(rt: &impl Print, n: usize, m: usize, j: usize) -> io::Result<()>
     requires { (6 ≤ m) × (m ≤ 108) × (j ≤ 108) }
 {
-    pair(n, m, j, j + 1);
-    pair(n, m, j, j);
-    pair(n, m, j, 0);
-    pair(n, m, j, j + 2);
+    pair(rt, n, m, j, j + 1)?;
+    pair(rt, n, m, j, j)?;
+    pair(rt, n, m, j, 0)?;
+    pair(rt, n, m, j, j + 2)
 }
 
 // A table with a line for each coefficient.
-fn lines(n: usize, m: usize, base: usize, missing: usize, doubled: usize)
+fn lines(
+    rt: &impl Print,
+    n: usize,
+    m: usize,
+    base: usize,
+    missing: usize,
+    doubled: usize,
+) -> io::Result<()>
     requires { (6 ≤ m) × (m ≤ 108) × (base ≤ 65536) }
 {
     let mut buf = room();
     let end = put_lines(&mut buf, 0, m, base, missing, doubled);
-    judge(n, m, &buf[..end]);
+    judge(rt, n, m, &buf[..end])
 }
 
 // With line j missing, with it doubled, and with one missing and one doubled.
-fn spoilt_lines(n: usize, m: usize, j: usize)
+fn spoilt_lines(rt: &impl Print, n: usize, m: usize, j: usize) -> io::Result<()>
     requires { (6 ≤ m) × (m ≤ 108) × (j < m) }
 {
-    lines(n, m, 1, j, m);
-    lines(n, m, 1, m, j);
-    lines(n, m, 1, j, m - 1 - j);
+    lines(rt, n, m, 1, j, m)?;
+    lines(rt, n, m, 1, m, j)?;
+    lines(rt, n, m, 1, j, m - 1 - j)
 }
 
-fn joints(n: usize, m: usize)
+fn joints(rt: &impl Print, n: usize, m: usize) -> io::Result<()>
     requires { (6 ≤ m) × (m ≤ 108) }
 {
     for j in 0..m {
-        joint(n, m, j);
-        spoilt_lines(n, m, j);
+        joint(rt, n, m, j)?;
+        spoilt_lines(rt, n, m, j)?;
     }
+    Ok(())
 }
 
 // Gaps and overlaps of which the first decides, 9 before them, and an end that is missing.
-fn causes(n: usize, m: usize)
+fn causes(rt: &impl Print, n: usize, m: usize) -> io::Result<()>
     requires { (6 ≤ m) × (m ≤ 108) }
 {
-    judged(n, m, b"");
-    judged(n, m, b"1,E,2\n");
-    judged(n, m, b"1,E,2\n0,0,2\n");
-    judged(n, m, b"E,E,2\nE,E,2\n");
-    judged(n, m, b"I,E,1\n0,H,1\n");
-    judged(n, m, b"0,0,1\n");
-    judged(n, m, b"0,H,1\n");
-    judged(n, m, b"0,D,1\n");
-    judged(n, m, b"0,0,1\n2,E,1\n1,1,1\n");
-    judged(n, m, b"0,0,1\n2,3,1\n3,E,1\n");
+    judged(rt, n, m, b"")?;
+    judged(rt, n, m, b"1,E,2\n")?;
+    judged(rt, n, m, b"1,E,2\n0,0,2\n")?;
+    judged(rt, n, m, b"E,E,2\nE,E,2\n")?;
+    judged(rt, n, m, b"I,E,1\n0,H,1\n")?;
+    judged(rt, n, m, b"0,0,1\n")?;
+    judged(rt, n, m, b"0,H,1\n")?;
+    judged(rt, n, m, b"0,D,1\n")?;
+    judged(rt, n, m, b"0,0,1\n2,E,1\n1,1,1\n")?;
+    judged(rt, n, m, b"0,0,1\n2,3,1\n3,E,1\n")
 }
 
-fn more_causes(n: usize, m: usize)
+fn more_causes(rt: &impl Print, n: usize, m: usize) -> io::Result<()>
     requires { (6 ≤ m) × (m ≤ 108) }
 {
-    judged(n, m, b"0,1,1\n1,1,1\n3,E,1\n");
-    judged(n, m, b"0,E,1\n0,E,1\n");
-    judged(n, m, b"0,E,1\nE,E,1\n");
-    judged(n, m, b"0,H,3\nH,E,2\nE,E,0\n");
-    judged(n, m, b"0,H,3\nH,E,2\nE,E,1");
-    judged(n, m, b"1,H,3\nI,E,2\n\n");
-    judged(n, m, b"0,H,3\nI,D,2\n");
-    judged(n, m, b"0,E,1\n\n0,E,1\n");
+    judged(rt, n, m, b"0,1,1\n1,1,1\n3,E,1\n")?;
+    judged(rt, n, m, b"0,E,1\n0,E,1\n")?;
+    judged(rt, n, m, b"0,E,1\nE,E,1\n")?;
+    judged(rt, n, m, b"0,H,3\nH,E,2\nE,E,0\n")?;
+    judged(rt, n, m, b"0,H,3\nH,E,2\nE,E,1")?;
+    judged(rt, n, m, b"1,H,3\nI,E,2\n\n")?;
+    judged(rt, n, m, b"0,H,3\nI,D,2\n")?;
+    judged(rt, n, m, b"0,E,1\n\n0,E,1\n")
 }
 
 // Tables that are taken, of one line, of two and of M; and what they tell.
-fn taken(n: usize, m: usize)
+fn taken(rt: &impl Print, n: usize, m: usize) -> io::Result<()>
     requires { (6 ≤ m) × (m ≤ 108) }
 {
-    judged(n, m, b"0,E,1\n");
-    judged(n, m, b"0,E,2\n");
-    judged(n, m, b"0,E,3\n");
-    judged(n, m, b"0,E,65536\n");
-    judged(n, m, b"0,D,1\nE,E,65535\n");
-    judged(n, m, b"0,0,47\n1,E,46\n");
-    lines(n, m, 0, m, m);
-    lines(n, m, 1, m, m);
-    lines(n, m, 65536, m, m);
-    lines(n, m, 65430, m, m);
+    judged(rt, n, m, b"0,E,1\n")?;
+    judged(rt, n, m, b"0,E,2\n")?;
+    judged(rt, n, m, b"0,E,3\n")?;
+    judged(rt, n, m, b"0,E,65536\n")?;
+    judged(rt, n, m, b"0,D,1\nE,E,65535\n")?;
+    judged(rt, n, m, b"0,0,47\n1,E,46\n")?;
+    lines(rt, n, m, 0, m, m)?;
+    lines(rt, n, m, 1, m, m)?;
+    lines(rt, n, m, 65536, m, m)?;
+    lines(rt, n, m, 65430, m, m)
 }
 
 // Where a told distance becomes one larger: half the largest step is 7 or 8 more than a multiple of 16, and 16 or 32 more by the other routes.
-fn tellings(n: usize, m: usize)
+fn tellings(rt: &impl Print, n: usize, m: usize) -> io::Result<()>
     requires { (6 ≤ m) × (m ≤ 108) }
 {
-    judged(n, m, b"0,E,15\n");
-    judged(n, m, b"0,E,16\n");
-    judged(n, m, b"0,H,17\nI,E,1\n");
-    judged(n, m, b"0,H,1\nI,E,47\n");
-    judged(n, m, b"0,E,48\n");
-    judged(n, m, b"0,E,1023\n");
-    judged(n, m, b"0,E,1024\n");
-    judged(n, m, b"0,E,65519\n");
-    judged(n, m, b"0,E,65520\n");
+    judged(rt, n, m, b"0,E,15\n")?;
+    judged(rt, n, m, b"0,E,16\n")?;
+    judged(rt, n, m, b"0,H,17\nI,E,1\n")?;
+    judged(rt, n, m, b"0,H,1\nI,E,47\n")?;
+    judged(rt, n, m, b"0,E,48\n")?;
+    judged(rt, n, m, b"0,E,1023\n")?;
+    judged(rt, n, m, b"0,E,1024\n")?;
+    judged(rt, n, m, b"0,E,65519\n")?;
+    judged(rt, n, m, b"0,E,65520\n")
 }
 
 // Far too many lines, alone and with a last one that is none.
-fn long_table(n: usize, m: usize, last: &[u8])
+fn long_table(rt: &impl Print, n: usize, m: usize, last: &[u8]) -> io::Result<()>
     requires { (6 ≤ m) × (m ≤ 108) }
 {
     let mut buf = long_room();
     let a = put_many(&mut buf, 0, m, b"0,E,65536\n", 3000);
     let end = put(&mut buf, a, m, last);
-    judge(n, m, &buf[..end]);
+    judge(rt, n, m, &buf[..end])
 }
 
-fn tables(n: usize, m: usize)
+fn tables(rt: &impl Print, n: usize, m: usize) -> io::Result<()>
     requires { (6 ≤ m) × (m ≤ 108) }
 {
-    wrong_fields(n, m);
-    wrong_bytes(n, m);
-    wrong_forms(n, m);
-    wrong_digits(n, m);
-    wrong_steps(n, m);
-    wrong_places(n, m);
-    causes(n, m);
-    more_causes(n, m);
-    joints(n, m);
-    taken(n, m);
-    tellings(n, m);
-    long_table(n, m, b"");
-    long_table(n, m, b"0,E,0\n");
+    wrong_fields(rt, n, m)?;
+    wrong_bytes(rt, n, m)?;
+    wrong_forms(rt, n, m)?;
+    wrong_digits(rt, n, m)?;
+    wrong_steps(rt, n, m)?;
+    wrong_places(rt, n, m)?;
+    causes(rt, n, m)?;
+    more_causes(rt, n, m)?;
+    joints(rt, n, m)?;
+    taken(rt, n, m)?;
+    tellings(rt, n, m)?;
+    long_table(rt, n, m, b"")?;
+    long_table(rt, n, m, b"0,E,0\n")
 }
 
 // Noise of a seed and a span.
@@ -601,99 +620,127 @@ fn level_block(n: usize, b: usize) -> [i32; ROOM]
 }
 
 // The calls: what each answers, and the buffer afterwards.
-fn show_levels(n: usize, table: &[u8], x: &[i32], levels: &mut [i32]) {
+fn show_levels(
+    rt: &impl Print,
+    n: usize,
+    table: &[u8],
+    x: &[i32],
+    levels: &mut [i32],
+) -> io::Result<()> {
     let code = level_calls::quantise(n, table, x, levels);
-    report::word(b"levels");
-    report::count(code as usize);
-    report::coefficients(levels, SHOWN);
+    report::word(rt, b"levels")?;
+    report::count(rt, code as usize)?;
+    report::coefficients(rt, levels, SHOWN)
 }
 
-fn show_back(n: usize, table: &[u8], levels: &[i32], out: &mut [i32]) {
+fn show_back(
+    rt: &impl Print,
+    n: usize,
+    table: &[u8],
+    levels: &[i32],
+    out: &mut [i32],
+) -> io::Result<()> {
     let code = level_calls::dequantise(n, table, levels, out);
-    report::word(b"back");
-    report::count(code as usize);
-    report::coefficients(out, SHOWN);
+    report::word(rt, b"back")?;
+    report::count(rt, code as usize)?;
+    report::coefficients(rt, out, SHOWN)
 }
 
 // The levels of the first c entries of x, in a buffer of l marks.
-fn quantised(n: usize, table: &[u8], x: [i32; ROOM], c: usize, l: usize) -> [i32; ROOM]
+fn quantised(
+    rt: &impl Print,
+    n: usize,
+    table: &[u8],
+    x: [i32; ROOM],
+    c: usize,
+    l: usize,
+) -> io::Result<[i32; ROOM]>
     requires { (c ≤ 112) × (l ≤ 112) }
 {
     let mut levels = [12345; ROOM];
-    show_levels(n, table, &x[..c], &mut levels[..l]);
-    levels
+    show_levels(rt, n, table, &x[..c], &mut levels[..l])?;
+    Ok(levels)
 }
 
-fn restored(n: usize, table: &[u8], levels: [i32; ROOM], c: usize, l: usize)
+fn restored(
+    rt: &impl Print,
+    n: usize,
+    table: &[u8],
+    levels: [i32; ROOM],
+    c: usize,
+    l: usize,
+) -> io::Result<()>
     requires { (c ≤ 112) × (l ≤ 112) }
 {
     let mut out = [12345; ROOM];
-    show_back(n, table, &levels[..c], &mut out[..l]);
+    show_back(rt, n, table, &levels[..c], &mut out[..l])
 }
 
 // A block through level and back.
-fn through(n: usize, m: usize, table: &[u8], x: [i32; ROOM])
+fn through(rt: &impl Print, n: usize, m: usize, table: &[u8], x: [i32; ROOM]) -> io::Result<()>
     requires { m ≤ 108 }
 {
-    let levels = quantised(n, table, x, m, m);
-    restored(n, table, levels, m, m);
+    let levels = quantised(rt, n, table, x, m, m)?;
+    restored(rt, n, table, levels, m, m)
 }
 
 // All blocks by a table, and all levels.
-fn all_blocks(n: usize, m: usize, table: &[u8])
+fn all_blocks(rt: &impl Print, n: usize, m: usize, table: &[u8]) -> io::Result<()>
     requires { (n ≤ 216) × (m ≤ 108) }
 {
     for b in 0..7 {
-        through(n, m, table, block(n, b));
+        through(rt, n, m, table, block(n, b))?;
     }
+    Ok(())
 }
 
-fn all_levels(n: usize, m: usize, table: &[u8])
+fn all_levels(rt: &impl Print, n: usize, m: usize, table: &[u8]) -> io::Result<()>
     requires { (n ≤ 216) × (m ≤ 108) }
 {
     for b in 0..8 {
-        restored(n, table, level_block(n, b), m, m);
+        restored(rt, n, table, level_block(n, b), m, m)?;
     }
+    Ok(())
 }
 
-fn levelled(n: usize, m: usize, table: &[u8])
+fn levelled(rt: &impl Print, n: usize, m: usize, table: &[u8]) -> io::Result<()>
     requires { (n ≤ 216) × (m ≤ 108) }
 {
-    all_blocks(n, m, table);
-    all_levels(n, m, table);
+    all_blocks(rt, n, m, table)?;
+    all_levels(rt, n, m, table)
 }
 
-fn levelled_by(n: usize, m: usize, text: &[u8])
+fn levelled_by(rt: &impl Print, n: usize, m: usize, text: &[u8]) -> io::Result<()>
     requires { (n ≤ 216) × (6 ≤ m) × (m ≤ 108) }
 {
     let mut buf = room();
     let end = put(&mut buf, 0, m, text);
-    levelled(n, m, &buf[..end]);
+    levelled(rt, n, m, &buf[..end])
 }
 
-fn levelled_by_lines(n: usize, m: usize, base: usize)
+fn levelled_by_lines(rt: &impl Print, n: usize, m: usize, base: usize) -> io::Result<()>
     requires { (n ≤ 216) × (m ≤ 108) × (base ≤ 65536) }
 {
     let mut buf = room();
     let end = put_lines(&mut buf, 0, m, base, m, m);
-    levelled(n, m, &buf[..end]);
+    levelled(rt, n, m, &buf[..end])
 }
 
-fn levels_of(n: usize, m: usize)
+fn levels_of(rt: &impl Print, n: usize, m: usize) -> io::Result<()>
     requires { (n ≤ 216) × (6 ≤ m) × (m ≤ 108) }
 {
-    levelled_by(n, m, b"0,E,1\n");
-    levelled_by(n, m, b"0,E,2\n");
-    levelled_by(n, m, b"0,E,3\n");
-    levelled_by(n, m, b"0,E,7\n");
-    levelled_by(n, m, b"0,E,65535\n");
-    levelled_by(n, m, b"0,E,65536\n");
-    levelled_by(n, m, b"0,H,3\nI,E,65536\n");
-    levelled_by(n, m, b"0,0,2\n1,E,1\n");
-    levelled_by_lines(n, m, 0);
-    levelled_by_lines(n, m, 1);
-    levelled_by_lines(n, m, 65430);
-    levelled_by(n, m, b"0,E,1\n0,0,1\n");
+    levelled_by(rt, n, m, b"0,E,1\n")?;
+    levelled_by(rt, n, m, b"0,E,2\n")?;
+    levelled_by(rt, n, m, b"0,E,3\n")?;
+    levelled_by(rt, n, m, b"0,E,7\n")?;
+    levelled_by(rt, n, m, b"0,E,65535\n")?;
+    levelled_by(rt, n, m, b"0,E,65536\n")?;
+    levelled_by(rt, n, m, b"0,H,3\nI,E,65536\n")?;
+    levelled_by(rt, n, m, b"0,0,2\n1,E,1\n")?;
+    levelled_by_lines(rt, n, m, 0)?;
+    levelled_by_lines(rt, n, m, 1)?;
+    levelled_by_lines(rt, n, m, 65430)?;
+    levelled_by(rt, n, m, b"0,E,1\n0,0,1\n")
 }
 
 // A block with one entry put in place of its own.
@@ -706,144 +753,145 @@ fn with(x: [i32; ROOM], k: usize, v: i32) -> [i32; ROOM]
 }
 
 // Buffers of these lengths, with every coefficient in its range and with the first beyond it.
-fn sized(n: usize, table: &[u8], c: usize, l: usize)
+fn sized(rt: &impl Print, n: usize, table: &[u8], c: usize, l: usize) -> io::Result<()>
     requires { (c ≤ 112) × (l ≤ 112) }
 {
     let x = noise(9, 1000);
-    quantised(n, table, x, c, l);
-    quantised(n, table, with(x, 0, ABOVE), c, l);
-    restored(n, table, x, c, l);
+    quantised(rt, n, table, x, c, l)?;
+    quantised(rt, n, table, with(x, 0, ABOVE), c, l)?;
+    restored(rt, n, table, x, c, l)
 }
 
 // Lengths that are one fewer, one more or none.
-fn sizes(n: usize, m: usize, table: &[u8])
+fn sizes(rt: &impl Print, n: usize, m: usize, table: &[u8]) -> io::Result<()>
     requires { (1 ≤ m) × (m ≤ 108) }
 {
-    sized(n, table, m - 1, m);
-    sized(n, table, m + 1, m);
-    sized(n, table, m, m - 1);
-    sized(n, table, m, m + 1);
-    sized(n, table, m - 1, m - 1);
-    sized(n, table, 0, m);
-    sized(n, table, m, 0);
-    sized(n, table, 0, 0);
+    sized(rt, n, table, m - 1, m)?;
+    sized(rt, n, table, m + 1, m)?;
+    sized(rt, n, table, m, m - 1)?;
+    sized(rt, n, table, m, m + 1)?;
+    sized(rt, n, table, m - 1, m - 1)?;
+    sized(rt, n, table, 0, m)?;
+    sized(rt, n, table, m, 0)?;
+    sized(rt, n, table, 0, 0)
 }
 
 // A coefficient beyond its range at either end, or just behind the last.
-fn ends(n: usize, m: usize, table: &[u8])
+fn ends(rt: &impl Print, n: usize, m: usize, table: &[u8]) -> io::Result<()>
     requires { (1 ≤ m) × (m ≤ 108) }
 {
     let x = noise(9, 1000);
-    through(n, m, table, with(x, 0, BELOW));
-    through(n, m, table, with(x, m - 1, ABOVE));
-    through(n, m, table, with(x, m, ABOVE));
+    through(rt, n, m, table, with(x, 0, BELOW))?;
+    through(rt, n, m, table, with(x, m - 1, ABOVE))?;
+    through(rt, n, m, table, with(x, m, ABOVE))
 }
 
-fn spoilt(n: usize, m: usize, table: &[u8])
+fn spoilt(rt: &impl Print, n: usize, m: usize, table: &[u8]) -> io::Result<()>
     requires { (1 ≤ m) × (m ≤ 108) }
 {
-    sizes(n, m, table);
-    ends(n, m, table);
+    sizes(rt, n, m, table)?;
+    ends(rt, n, m, table)
 }
 
-fn spoilt_by(n: usize, m: usize, text: &[u8])
+fn spoilt_by(rt: &impl Print, n: usize, m: usize, text: &[u8]) -> io::Result<()>
     requires { (6 ≤ m) × (m ≤ 108) }
 {
     let mut buf = room();
     let end = put(&mut buf, 0, m, text);
-    spoilt(n, m, &buf[..end]);
+    spoilt(rt, n, m, &buf[..end])
 }
 
 // The table is tested before the lengths, and these before the coefficients.
-fn refusals(n: usize, m: usize)
+fn refusals(rt: &impl Print, n: usize, m: usize) -> io::Result<()>
     requires { (6 ≤ m) × (m ≤ 108) }
 {
-    spoilt_by(n, m, b"0,E,2\n");
-    spoilt_by(n, m, b"0,E,2");
-    spoilt_by(n, m, b"0,D,2\n");
-    spoilt_by(n, m, b"0,E,2\n0,E,2\n");
+    spoilt_by(rt, n, m, b"0,E,2\n")?;
+    spoilt_by(rt, n, m, b"0,E,2")?;
+    spoilt_by(rt, n, m, b"0,D,2\n")?;
+    spoilt_by(rt, n, m, b"0,E,2\n0,E,2\n")
 }
 
-fn show_number(v: u32) {
-    report::count(v as usize);
+fn show_number(rt: &impl Print, v: u32) -> io::Result<()> {
+    report::count(rt, v as usize)
 }
 
 // The told distance into the first l of two places, by the number of a route, and both places afterwards.
-fn show_tell(number: u32, n: usize, table: &[u8], l: usize)
+fn show_tell(rt: &impl Print, number: u32, n: usize, table: &[u8], l: usize) -> io::Result<()>
     requires { l ≤ 2 }
 {
     let mut places = [12345; 2];
     let code = filter_bank::tell(number, n, table, &mut places[..l]);
-    show_number(code);
-    show_number(places[0]);
-    show_number(places[1]);
+    show_number(rt, code)?;
+    show_number(rt, places[0])?;
+    show_number(rt, places[1])
 }
 
 // No room, room for one number, and room for two.
-fn tell_by(number: u32, n: usize, table: &[u8]) {
-    report::word(b"tell");
-    report::count(n);
-    report::count(number as usize);
-    show_tell(number, n, table, 0);
-    show_tell(number, n, table, 1);
-    show_tell(number, n, table, 2);
-    report::end();
+fn tell_by(rt: &impl Print, number: u32, n: usize, table: &[u8]) -> io::Result<()> {
+    report::word(rt, b"tell")?;
+    report::count(rt, n)?;
+    report::count(rt, number as usize)?;
+    show_tell(rt, number, n, table, 0)?;
+    show_tell(rt, number, n, table, 1)?;
+    show_tell(rt, number, n, table, 2)?;
+    report::end(rt)
 }
 
 // The numbers of the routes, and numbers of none.
-fn tell_each(n: usize, table: &[u8]) {
-    tell_by(0, n, table);
-    tell_by(1, n, table);
-    tell_by(2, n, table);
-    tell_by(3, n, table);
-    tell_by(4294967295, n, table);
+fn tell_each(rt: &impl Print, n: usize, table: &[u8]) -> io::Result<()> {
+    tell_by(rt, 0, n, table)?;
+    tell_by(rt, 1, n, table)?;
+    tell_by(rt, 2, n, table)?;
+    tell_by(rt, 3, n, table)?;
+    tell_by(rt, 4294967295, n, table)
 }
 
-fn tell_table(n: usize, m: usize, text: &[u8])
+fn tell_table(rt: &impl Print, n: usize, m: usize, text: &[u8]) -> io::Result<()>
     requires { (6 ≤ m) × (m ≤ 108) }
 {
     let mut buf = room();
     let end = put(&mut buf, 0, m, text);
-    tell_each(n, &buf[..end]);
+    tell_each(rt, n, &buf[..end])
 }
 
 // Tables that are taken, and one for each cause, which stands before the length of the room.
-fn tell_tables(n: usize, m: usize)
+fn tell_tables(rt: &impl Print, n: usize, m: usize) -> io::Result<()>
     requires { (6 ≤ m) × (m ≤ 108) }
 {
-    tell_table(n, m, b"0,E,1\n");
-    tell_table(n, m, b"0,H,65536\nI,E,2\n");
-    tell_table(n, m, b"0,E,65537\n");
-    tell_table(n, m, b"");
-    tell_table(n, m, b"0,E,2\nE,E,2\n");
+    tell_table(rt, n, m, b"0,E,1\n")?;
+    tell_table(rt, n, m, b"0,H,65536\nI,E,2\n")?;
+    tell_table(rt, n, m, b"0,E,65537\n")?;
+    tell_table(rt, n, m, b"")?;
+    tell_table(rt, n, m, b"0,E,2\nE,E,2\n")
 }
 
 // A length that is not tabled: 1 with any table, and with the buffers of m.
-fn untabled(n: usize, m: usize)
+fn untabled(rt: &impl Print, n: usize, m: usize) -> io::Result<()>
     requires { (6 ≤ m) × (m ≤ 108) }
 {
-    judged(n, m, b"0,E,2\n");
-    judged(n, m, b"0,E,0\n");
-    judged(n, m, b"");
-    spoilt_by(n, m, b"0,E,2\n");
-    spoilt_by(n, m, b"x");
-    tell_tables(n, m);
+    judged(rt, n, m, b"0,E,2\n")?;
+    judged(rt, n, m, b"0,E,0\n")?;
+    judged(rt, n, m, b"")?;
+    spoilt_by(rt, n, m, b"0,E,2\n")?;
+    spoilt_by(rt, n, m, b"x")?;
+    tell_tables(rt, n, m)
 }
 
 // Every step, at both ends of the range: the steps from `base` on, at N = 216.
-fn swept(base: usize)
+fn swept(rt: &impl Print, base: usize) -> io::Result<()>
     requires { base ≤ 65536 }
 {
     let mut buf = room();
     let end = put_lines(&mut buf, 0, 108, base, 108, 108);
-    through(216, 108, &buf[..end], alternating(MOST, LEAST));
-    through(216, 108, &buf[..end], alternating(LEAST, MOST));
+    through(rt, 216, 108, &buf[..end], alternating(MOST, LEAST))?;
+    through(rt, 216, 108, &buf[..end], alternating(LEAST, MOST))
 }
 
-fn sweep() {
+fn sweep(rt: &impl Print) -> io::Result<()> {
     for t in 0..SWEEPS {
-        swept(108 * t + 1);
+        swept(rt, 108 * t + 1)?;
     }
+    Ok(())
 }
 
 // A number below `count`, by the upper bits of r: the lower ones repeat too soon.
@@ -926,103 +974,119 @@ fn damage(i: usize) -> u8
 }
 
 // A table with one byte changed, or one more behind its last.
-fn changed(n: usize, m: usize, whole: [u8; TEXT], end: usize, r: u64)
+fn changed(
+    rt: &impl Print,
+    n: usize,
+    m: usize,
+    whole: [u8; TEXT],
+    end: usize,
+    r: u64,
+) -> io::Result<()>
     requires { (6 ≤ m) × (m ≤ 108) × (end ≤ 2048) × (r < 2 ^ 32) }
 {
     let mut buf = whole;
     let byte = damage(pick(random(r), 16));
     let behind = put_byte(&mut buf, pick(r, end + 1), byte);
-    judge(n, m, &buf[..larger(end, behind)]);
+    judge(rt, n, m, &buf[..larger(end, behind)])
 }
 
-fn changes(n: usize, m: usize, whole: [u8; TEXT], end: usize, seed: u64)
+fn changes(
+    rt: &impl Print,
+    n: usize,
+    m: usize,
+    whole: [u8; TEXT],
+    end: usize,
+    seed: u64,
+) -> io::Result<()>
     requires { (6 ≤ m) × (m ≤ 108) × (end ≤ 2048) × (seed < 2 ^ 32) }
 {
     let mut r = seed;
     for i in 0..CHANGES {
         r = random(random(r));
-        changed(n, m, whole, end, r);
+        changed(rt, n, m, whole, end, r)?;
     }
+    Ok(())
 }
 
 // Random table t: as it is, with a block through it, then cut short, and then with bytes changed.
-fn random_table(n: usize, m: usize, t: usize)
+fn random_table(rt: &impl Print, n: usize, m: usize, t: usize) -> io::Result<()>
     requires { (n ≤ 216) × (6 ≤ m) × (m ≤ 108) × (t < 18) }
 {
     let seed = (1000 * n + t) as u64;
     let mut buf = room();
     let end = put_random(&mut buf, m, seed, reach_of(m, t), largest_of(t));
-    judge(n, m, &buf[..end]);
-    through(n, m, &buf[..end], noise(seed, 536870912));
-    judge(n, m, &buf[..pick(random(seed), end + 1)]);
-    changes(n, m, buf, end, seed);
+    judge(rt, n, m, &buf[..end])?;
+    through(rt, n, m, &buf[..end], noise(seed, 536870912))?;
+    judge(rt, n, m, &buf[..pick(random(seed), end + 1)])?;
+    changes(rt, n, m, buf, end, seed)
 }
 
-fn random_tables(n: usize, m: usize)
+fn random_tables(rt: &impl Print, n: usize, m: usize) -> io::Result<()>
     requires { (n ≤ 216) × (6 ≤ m) × (m ≤ 108) }
 {
     for t in 0..RANDOM {
-        random_table(n, m, t);
+        random_table(rt, n, m, t)?;
     }
+    Ok(())
 }
 
 // What step-table prints for bytes as they are typed, which are shown by their length and their sum.
-fn typed_with(number: &[u8], table: &[u8]) {
-    report::word(b"typed");
-    report::count(number.len());
-    report::count(report::sum_bytes(number) as usize);
-    report::end();
-    show_report(number, table);
+fn typed_with(rt: &impl Print, number: &[u8], table: &[u8]) -> io::Result<()> {
+    report::word(rt, b"typed")?;
+    report::count(rt, number.len())?;
+    report::count(rt, report::sum_bytes(number) as usize)?;
+    report::end(rt)?;
+    show_report(rt, number, table)
 }
 
 // Tables that are taken at 12 and at 108, and one for each cause.
-fn typed(number: &[u8]) {
-    typed_with(number, b"0,5,2\n");
-    typed_with(number, b"0,53,3\n");
-    typed_with(number, b"0,5,0\n");
-    typed_with(number, b"");
-    typed_with(number, b"0,2,1\n2,5,1\n");
+fn typed(rt: &impl Print, number: &[u8]) -> io::Result<()> {
+    typed_with(rt, number, b"0,5,2\n")?;
+    typed_with(rt, number, b"0,53,3\n")?;
+    typed_with(rt, number, b"0,5,0\n")?;
+    typed_with(rt, number, b"")?;
+    typed_with(rt, number, b"0,2,1\n2,5,1\n")
 }
 
-fn typed_lengths() {
-    typed(b"12");
-    typed(b"24");
-    typed(b"36");
-    typed(b"72");
-    typed(b"108");
-    typed(b"216");
+fn typed_lengths(rt: &impl Print) -> io::Result<()> {
+    typed(rt, b"12")?;
+    typed(rt, b"24")?;
+    typed(rt, b"36")?;
+    typed(rt, b"72")?;
+    typed(rt, b"108")?;
+    typed(rt, b"216")
 }
 
 // No lengths: other numbers, some of which are 12 where a sign or upper bits are lost, and bytes that are no number.
-fn typed_numbers() {
-    typed(b"0");
-    typed(b"1");
-    typed(b"48");
-    typed(b"144");
-    typed(b"-12");
-    typed(b"-1");
-    typed(b"268");
-    typed(b"65548");
-    typed(b"-65524");
-    typed(b"4294967308");
+fn typed_numbers(rt: &impl Print) -> io::Result<()> {
+    typed(rt, b"0")?;
+    typed(rt, b"1")?;
+    typed(rt, b"48")?;
+    typed(rt, b"144")?;
+    typed(rt, b"-12")?;
+    typed(rt, b"-1")?;
+    typed(rt, b"268")?;
+    typed(rt, b"65548")?;
+    typed(rt, b"-65524")?;
+    typed(rt, b"4294967308")
 }
 
-fn typed_bytes() {
-    typed(b"");
-    typed(b"-");
-    typed(b"012");
-    typed(b"000012");
-    typed(b"-0");
-    typed(b"+12");
-    typed(b" 12");
-    typed(b"12 ");
-    typed(b"12\n");
-    typed(b"12\x00");
-    typed(b"12,");
-    typed(b"12.0");
-    typed(b"0x0c");
-    typed(b"\xff12");
-    typed(b"twelve");
+fn typed_bytes(rt: &impl Print) -> io::Result<()> {
+    typed(rt, b"")?;
+    typed(rt, b"-")?;
+    typed(rt, b"012")?;
+    typed(rt, b"000012")?;
+    typed(rt, b"-0")?;
+    typed(rt, b"+12")?;
+    typed(rt, b" 12")?;
+    typed(rt, b"12 ")?;
+    typed(rt, b"12\n")?;
+    typed(rt, b"12\x00")?;
+    typed(rt, b"12,")?;
+    typed(rt, b"12.0")?;
+    typed(rt, b"0x0c")?;
+    typed(rt, b"\xff12")?;
+    typed(rt, b"twelve")
 }
 
 // The tables of a stream by their kind: five that are taken, and then 9, 10, 11, 9 and 10.
@@ -1052,31 +1116,32 @@ fn sum_entries(entries: &[i64]) -> u64 {
     h
 }
 
-fn show_out(code: u32, out: &[i16]) {
-    report::word(b"out");
-    report::count(code as usize);
-    report::samples(out, SHOWN);
+fn show_out(rt: &impl Print, code: u32, out: &[i16]) -> io::Result<()> {
+    report::word(rt, b"out")?;
+    report::count(rt, code as usize)?;
+    report::samples(rt, out, SHOWN)
 }
 
-fn show_stream(s: Stream) {
-    report::word(b"stream");
-    report::count(s.n);
-    report::count(s.expected as usize);
-    report::count(s.shape as usize);
+fn show_stream(rt: &impl Print, s: Stream) -> io::Result<()> {
+    report::word(rt, b"stream")?;
+    report::count(rt, s.n)?;
+    report::count(rt, s.expected as usize)?;
+    report::count(rt, s.shape as usize)?;
     let tail = s.tail;
-    report::count(sum_entries(&tail) as usize);
-    report::end();
+    report::count(rt, sum_entries(&tail) as usize)?;
+    report::end(rt)
 }
 
-fn show_state(state: &[i64]) {
-    report::word(b"state");
-    report::count(state.len());
-    report::count(sum_entries(state) as usize);
-    report::end();
+fn show_state(rt: &impl Print, state: &[i64]) -> io::Result<()> {
+    report::word(rt, b"state")?;
+    report::count(rt, state.len())?;
+    report::count(rt, sum_entries(state) as usize)?;
+    report::end(rt)
 }
 
 // The steps on levels, by value and in place, and what each leaves.
 fn show_step(
+    rt: &impl Print,
     s: Stream,
     number: u32,
     left: u32,
@@ -1084,15 +1149,16 @@ fn show_step(
     table: &[u8],
     levels: &[i32],
     out: &mut [i16],
-) -> Stream {
+) -> io::Result<Stream> {
     let r = level_calls::step_levels(s, number, left, right, table, levels, out);
     let next = r.stream;
-    show_out(r.code, out);
-    show_stream(next);
-    next
+    show_out(rt, r.code, out)?;
+    show_stream(rt, next)?;
+    Ok(next)
 }
 
 fn show_step_in_place(
+    rt: &impl Print,
     state: &mut [i64],
     number: u32,
     left: u32,
@@ -1100,14 +1166,15 @@ fn show_step_in_place(
     table: &[u8],
     levels: &[i32],
     out: &mut [i16],
-) {
+) -> io::Result<()> {
     let code = level_calls::step_levels_in_place(state, number, left, right, table, levels, out);
-    show_out(code, out);
-    show_state(state);
+    show_out(rt, code, out)?;
+    show_state(rt, state)
 }
 
 // A step on the first c entries of x by a table of a kind, and a buffer of l marks.
 fn offer(
+    rt: &impl Print,
     s: Stream,
     number: u32,
     left: u32,
@@ -1117,16 +1184,26 @@ fn offer(
     x: [i32; ROOM],
     c: usize,
     l: usize,
-) -> Stream
+) -> io::Result<Stream>
     requires { (6 ≤ m) × (m ≤ 108) × (c ≤ 112) × (l ≤ 112) }
 {
     let mut buf = room();
     let end = put_kind(&mut buf, m, kind);
     let mut out = [12345; ROOM];
-    show_step(s, number, left, right, &buf[..end], &x[..c], &mut out[..l])
+    show_step(
+        rt,
+        s,
+        number,
+        left,
+        right,
+        &buf[..end],
+        &x[..c],
+        &mut out[..l],
+    )
 }
 
 fn offer_in_place(
+    rt: &impl Print,
     state: &mut [i64],
     number: u32,
     left: u32,
@@ -1136,13 +1213,14 @@ fn offer_in_place(
     x: [i32; ROOM],
     c: usize,
     l: usize,
-)
+) -> io::Result<()>
     requires { (6 ≤ m) × (m ≤ 108) × (c ≤ 112) × (l ≤ 112) }
 {
     let mut buf = room();
     let end = put_kind(&mut buf, m, kind);
     let mut out = [12345; ROOM];
     show_step_in_place(
+        rt,
         state,
         number,
         left,
@@ -1150,7 +1228,7 @@ fn offer_in_place(
         &buf[..end],
         &x[..c],
         &mut out[..l],
-    );
+    )
 }
 
 // Damage of a step by its kind: another number, the other left shape, no right shape, each with a table that is none; such tables with a wrong length;
@@ -1214,6 +1292,7 @@ fn damaged_hop(m: usize, d: usize) -> usize
 }
 
 fn refused(
+    rt: &impl Print,
     s: Stream,
     number: u32,
     left: u32,
@@ -1222,10 +1301,11 @@ fn refused(
     kind: usize,
     x: [i32; ROOM],
     d: usize,
-) -> Stream
+) -> io::Result<Stream>
     requires { (6 ≤ m) × (m ≤ 108) }
 {
     offer(
+        rt,
         s,
         damaged_number(number, d),
         damaged_left(left, d),
@@ -1239,6 +1319,7 @@ fn refused(
 }
 
 fn refused_in_place(
+    rt: &impl Print,
     state: &mut [i64],
     number: u32,
     left: u32,
@@ -1247,10 +1328,11 @@ fn refused_in_place(
     kind: usize,
     x: [i32; ROOM],
     d: usize,
-)
+) -> io::Result<()>
     requires { (6 ≤ m) × (m ≤ 108) }
 {
     offer_in_place(
+        rt,
         state,
         damaged_number(number, d),
         damaged_left(left, d),
@@ -1260,7 +1342,7 @@ fn refused_in_place(
         x,
         damaged_levels(m, d),
         damaged_hop(m, d),
-    );
+    )
 }
 
 // Levels of block b: from quiet ones to the ends of i32.
@@ -1278,17 +1360,24 @@ fn stored(n: usize, b: usize) -> [i32; ROOM]
 }
 
 // Block b in place and by value, each behind a damaged one.
-fn either_way(n: usize, m: usize, s: Stream, state: &mut [i64], b: usize) -> Stream
+fn either_way(
+    rt: &impl Print,
+    n: usize,
+    m: usize,
+    s: Stream,
+    state: &mut [i64],
+    b: usize,
+) -> io::Result<Stream>
     requires { (n ≤ 216) × (6 ≤ m) × (m ≤ 108) × (b < 16) }
 {
     let left = JOINTS[b];
     let right = JOINTS[b + 1];
     let kind = b % 5;
     let x = stored(n, b);
-    refused_in_place(state, b as u32, left, right, m, kind, x, b % 14);
-    offer_in_place(state, b as u32, left, right, m, kind, x, m, m);
-    let t = refused(s, b as u32, left, right, m, kind, x, b % 14);
-    offer(t, b as u32, left, right, m, kind, x, m, m)
+    refused_in_place(rt, state, b as u32, left, right, m, kind, x, b % 14)?;
+    offer_in_place(rt, state, b as u32, left, right, m, kind, x, m, m)?;
+    let t = refused(rt, s, b as u32, left, right, m, kind, x, b % 14)?;
+    offer(rt, t, b as u32, left, right, m, kind, x, m, m)
 }
 
 fn fresh_state(n: usize) -> [i64; ENTRIES] {
@@ -1297,15 +1386,16 @@ fn fresh_state(n: usize) -> [i64; ENTRIES] {
     state
 }
 
-fn stepped(n: usize, m: usize)
+fn stepped(rt: &impl Print, n: usize, m: usize) -> io::Result<()>
     requires { (n ≤ 216) × (6 ≤ m) × (m ≤ 108) }
 {
     let made = filter_bank::fresh(n);
     let mut s = made.stream;
     let mut state = fresh_state(n);
     for b in 0..BLOCKS {
-        s = either_way(n, m, s, &mut state, b);
+        s = either_way(rt, n, m, s, &mut state, b)?;
     }
+    Ok(())
 }
 
 // A forged stream, all its tail entries v.
@@ -1320,6 +1410,7 @@ fn alike(n: usize, expected: u64, shape: u32, v: i64) -> Stream {
 
 // A step on a forged stream, by a number, the shapes, the table's kind and the lengths.
 fn forged_as(
+    rt: &impl Print,
     s: Stream,
     m: usize,
     number: u32,
@@ -1328,24 +1419,25 @@ fn forged_as(
     kind: usize,
     c: usize,
     l: usize,
-)
+) -> io::Result<()>
     requires { (6 ≤ m) × (m ≤ 108) × (c ≤ 112) × (l ≤ 112) }
 {
-    offer(s, number, left, right, m, kind, noise(3, 1000), c, l);
+    offer(rt, s, number, left, right, m, kind, noise(3, 1000), c, l)?;
+    Ok(())
 }
 
 // A stream that no step can go on from: 4 before 7, 8, 9, 10, 11 and 2.
-fn forged(n: usize, m: usize, v: i64)
+fn forged(rt: &impl Print, n: usize, m: usize, v: i64) -> io::Result<()>
     requires { (6 ≤ m) × (m ≤ 108) }
 {
     let s = alike(n, 5, LONG, v);
-    forged_as(s, m, 5, LONG, LONG, 1, m, m);
-    forged_as(s, m, 6, LONG, LONG, 1, m, m);
-    forged_as(s, m, 5, SHORT, 2, 1, m, m);
-    forged_as(s, m, 5, LONG, LONG, 5, m, m);
-    forged_as(s, m, 5, LONG, LONG, 6, 0, m);
-    forged_as(s, m, 5, LONG, LONG, 7, m, 0);
-    forged_as(s, m, 5, LONG, LONG, 1, 0, 0);
+    forged_as(rt, s, m, 5, LONG, LONG, 1, m, m)?;
+    forged_as(rt, s, m, 6, LONG, LONG, 1, m, m)?;
+    forged_as(rt, s, m, 5, SHORT, 2, 1, m, m)?;
+    forged_as(rt, s, m, 5, LONG, LONG, 5, m, m)?;
+    forged_as(rt, s, m, 5, LONG, LONG, 6, 0, m)?;
+    forged_as(rt, s, m, 5, LONG, LONG, 7, m, 0)?;
+    forged_as(rt, s, m, 5, LONG, LONG, 1, 0, 0)
 }
 
 // The same in place, on the first `size` entries of a state.
@@ -1358,6 +1450,7 @@ fn forged_state(n: i64, v: i64) -> [i64; ROOM] {
 }
 
 fn quiet_in_place(
+    rt: &impl Print,
     held: [i64; ROOM],
     size: usize,
     number: u32,
@@ -1365,11 +1458,12 @@ fn quiet_in_place(
     m: usize,
     kind: usize,
     c: usize,
-)
+) -> io::Result<()>
     requires { (size ≤ 112) × (6 ≤ m) × (m ≤ 108) × (c ≤ 112) }
 {
     let mut state = held;
     offer_in_place(
+        rt,
         &mut state[..size],
         number,
         left,
@@ -1379,31 +1473,31 @@ fn quiet_in_place(
         noise(3, 1000),
         c,
         m,
-    );
+    )
 }
 
-fn forged_in_place(n: i64, m: usize, v: i64)
+fn forged_in_place(rt: &impl Print, n: i64, m: usize, v: i64) -> io::Result<()>
     requires { (6 ≤ m) × (m ≤ 108) }
 {
     let state = forged_state(n, v);
-    quiet_in_place(state, ENTRIES, 5, LONG, m, 1, m);
-    quiet_in_place(state, ENTRIES, 6, SHORT, m, 5, m);
-    quiet_in_place(state, ENTRIES, 5, SHORT, m, 6, m);
-    quiet_in_place(state, ENTRIES, 5, LONG, m, 7, 0);
-    quiet_in_place(state, ENTRIES, 5, LONG, m, 1, 0);
-    quiet_in_place(state, ENTRIES - 1, 5, LONG, m, 1, m);
-    quiet_in_place(state, ENTRIES + 1, 6, SHORT, m, 5, m);
-    quiet_in_place(state, 0, 5, LONG, m, 1, m);
+    quiet_in_place(rt, state, ENTRIES, 5, LONG, m, 1, m)?;
+    quiet_in_place(rt, state, ENTRIES, 6, SHORT, m, 5, m)?;
+    quiet_in_place(rt, state, ENTRIES, 5, SHORT, m, 6, m)?;
+    quiet_in_place(rt, state, ENTRIES, 5, LONG, m, 7, 0)?;
+    quiet_in_place(rt, state, ENTRIES, 5, LONG, m, 1, 0)?;
+    quiet_in_place(rt, state, ENTRIES - 1, 5, LONG, m, 1, m)?;
+    quiet_in_place(rt, state, ENTRIES + 1, 6, SHORT, m, 5, m)?;
+    quiet_in_place(rt, state, 0, 5, LONG, m, 1, m)
 }
 
 // A sound tail, one at its limit, and such as are one beyond it: m times 2^55.
-fn forgeries(n: usize, m: usize, limit: i64)
+fn forgeries(rt: &impl Print, n: usize, m: usize, limit: i64) -> io::Result<()>
     requires { (n ≤ 216) × (6 ≤ m) × (m ≤ 108) }
 {
-    forged(n, m, 1099511627776);
-    forged(n, m, limit);
-    forged_in_place(n as i64, m, 1099511627776);
-    forged_in_place(n as i64, m, limit);
+    forged(rt, n, m, 1099511627776)?;
+    forged(rt, n, m, limit)?;
+    forged_in_place(rt, n as i64, m, 1099511627776)?;
+    forged_in_place(rt, n as i64, m, limit)
 }
 
 // All of the range, the loudest samples alone, and two softer parts of the range, hop by hop.
@@ -1465,66 +1559,73 @@ fn analysed(n: usize, m: usize, b: usize, left: u32, right: u32, x: [i16; LONGES
 }
 
 // The levels of a block by a table of a kind.
-fn stored_by(n: usize, m: usize, kind: usize, x: [i32; ROOM]) -> [i32; ROOM]
+fn stored_by(
+    rt: &impl Print,
+    n: usize,
+    m: usize,
+    kind: usize,
+    x: [i32; ROOM],
+) -> io::Result<[i32; ROOM]>
     requires { (6 ≤ m) × (m ≤ 108) }
 {
     let mut buf = room();
     let end = put_kind(&mut buf, m, kind);
-    quantised(n, &buf[..end], x, m, m)
+    quantised(rt, n, &buf[..end], x, m, m)
 }
 
 // Block b, which covers hops b and b + 1: analysed, stored as levels by a table of its own, and played back.
-fn play(s: Stream, n: usize, m: usize, b: usize) -> Stream
+fn play(rt: &impl Print, s: Stream, n: usize, m: usize, b: usize) -> io::Result<Stream>
     requires { (n ≤ 216) × (6 ≤ m) × (m ≤ 108) × (b < 16) }
 {
     let left = JOINTS[b];
     let right = JOINTS[b + 1];
     let x = joined(sound(n, b), sound(n, b + 1), m);
     let c = analysed(n, m, b, left, right, x);
-    let levels = stored_by(n, m, b % 5, c);
-    offer(s, b as u32, left, right, m, b % 5, levels, m, m)
+    let levels = stored_by(rt, n, m, b % 5, c)?;
+    offer(rt, s, b as u32, left, right, m, b % 5, levels, m, m)
 }
 
-fn played(n: usize, m: usize)
+fn played(rt: &impl Print, n: usize, m: usize) -> io::Result<()>
     requires { (n ≤ 216) × (6 ≤ m) × (m ≤ 108) }
 {
     let made = filter_bank::fresh(n);
     let mut s = made.stream;
     for b in 0..BLOCKS {
-        s = play(s, n, m, b);
+        s = play(rt, s, n, m, b)?;
     }
+    Ok(())
 }
 
-fn offered(n: usize, m: usize, limit: i64)
+fn offered(rt: &impl Print, n: usize, m: usize, limit: i64) -> io::Result<()>
     requires { (n ≤ 216) × (6 ≤ m) × (m ≤ 108) }
 {
-    tables(n, m);
-    random_tables(n, m);
-    tell_tables(n, m);
-    levels_of(n, m);
-    refusals(n, m);
-    stepped(n, m);
-    forgeries(n, m, limit);
-    played(n, m);
+    tables(rt, n, m)?;
+    random_tables(rt, n, m)?;
+    tell_tables(rt, n, m)?;
+    levels_of(rt, n, m)?;
+    refusals(rt, n, m)?;
+    stepped(rt, n, m)?;
+    forgeries(rt, n, m, limit)?;
+    played(rt, n, m)
 }
 
-fn main() {
-    offered(12, 6, 216172782113783809);
-    offered(24, 12, 432345564227567616);
-    offered(36, 18, -648518346341351425);
-    offered(72, 36, 1297036692682702849);
-    offered(108, 54, -1945555039024054273);
-    offered(216, 108, 3891110078048108545);
-    untabled(0, 6);
-    untabled(11, 6);
-    untabled(48, 24);
-    untabled(144, 72);
-    untabled(217, 108);
-    untabled(18446744073709551615, 36);
-    forged(48, 24, 0);
-    forged_in_place(-12, 6, 0);
-    typed_lengths();
-    typed_numbers();
-    typed_bytes();
-    sweep();
+fn main(rt: HostRuntime) -> io::Result<()> {
+    offered(&rt, 12, 6, 216172782113783809)?;
+    offered(&rt, 24, 12, 432345564227567616)?;
+    offered(&rt, 36, 18, -648518346341351425)?;
+    offered(&rt, 72, 36, 1297036692682702849)?;
+    offered(&rt, 108, 54, -1945555039024054273)?;
+    offered(&rt, 216, 108, 3891110078048108545)?;
+    untabled(&rt, 0, 6)?;
+    untabled(&rt, 11, 6)?;
+    untabled(&rt, 48, 24)?;
+    untabled(&rt, 144, 72)?;
+    untabled(&rt, 217, 108)?;
+    untabled(&rt, 18446744073709551615, 36)?;
+    forged(&rt, 48, 24, 0)?;
+    forged_in_place(&rt, -12, 6, 0)?;
+    typed_lengths(&rt)?;
+    typed_numbers(&rt)?;
+    typed_bytes(&rt)?;
+    sweep(&rt)
 }

@@ -1,8 +1,11 @@
 // Whole recordings through the public calls, compared with what vectors/recordings.py makes from the definitions.
+#![tactic(auto)]
+
 ghost use Rattle.std.specs.Prelude.{◌≡◌, ◌≤◌, ◌<◌, ◌^◌, length};
 
 use analysis::Route;
 use orders::Order;
+use std::io;
 
 // The most hops of a recording.
 const HOPS: usize = 4095;
@@ -53,64 +56,90 @@ fn change(c: &mut [i32], seed: u64, span: u64)
     }
 }
 
-fn show_route(route: Route) {
+fn show_route(rt: &impl Print, route: Route) -> io::Result<()> {
     match route {
-        Route::Direct => report::word(b"direct"),
-        Route::Short => report::word(b"short"),
-        Route::Double => report::word(b"double"),
+        Route::Direct => report::word(rt, b"direct")?,
+        Route::Short => report::word(rt, b"short")?,
+        Route::Double => report::word(rt, b"double")?,
     }
+    Ok(())
 }
 
-fn show_order(order: Order) {
+fn show_order(rt: &impl Print, order: Order) -> io::Result<()> {
     match order {
-        Order::ByBlock => report::word(b",block"),
-        Order::ByFrequency => report::word(b",frequency"),
+        Order::ByBlock => report::word(rt, b",block")?,
+        Order::ByFrequency => report::word(rt, b",frequency")?,
     }
+    Ok(())
 }
 
 // What each call is handed first.
-fn show_shape(order: Order, n: usize, hops: usize) {
-    show_order(order);
-    report::count(n);
-    report::count(hops);
+fn show_shape(rt: &impl Print, order: Order, n: usize, hops: usize) -> io::Result<()> {
+    show_order(rt, order)?;
+    report::count(rt, n)?;
+    report::count(rt, hops)
 }
 
 // One call each: what it was handed, its number, and the buffer afterwards.
-fn analysed(route: Route, order: Order, n: usize, hops: usize, x: &[i16], out: &mut [i32]) {
-    show_route(route);
-    show_shape(order, n, hops);
-    report::count(x.len());
+fn analysed(
+    rt: &impl Print,
+    route: Route,
+    order: Order,
+    n: usize,
+    hops: usize,
+    x: &[i16],
+    out: &mut [i32],
+) -> io::Result<()> {
+    show_route(rt, route)?;
+    show_shape(rt, order, n, hops)?;
+    report::count(rt, x.len())?;
     let code = filter_bank::analyse_recording(route, order, n, hops, x, out);
-    report::count(code as usize);
-    report::coefficients(out, SHOWN);
+    report::count(rt, code as usize)?;
+    report::coefficients(rt, out, SHOWN)
 }
 
-fn synthesised(order: Order, n: usize, hops: usize, c: &[i32], out: &mut [i16]) {
-    report::word(b"synthesis");
-    show_shape(order, n, hops);
-    report::count(c.len());
+fn synthesised(
+    rt: &impl Print,
+    order: Order,
+    n: usize,
+    hops: usize,
+    c: &[i32],
+    out: &mut [i16],
+) -> io::Result<()> {
+    report::word(rt, b"synthesis")?;
+    show_shape(rt, order, n, hops)?;
+    report::count(rt, c.len())?;
     let code = filter_bank::synthesise_recording(order, n, hops, c, out);
-    report::count(code as usize);
-    report::samples(out, SHOWN);
+    report::count(rt, code as usize)?;
+    report::samples(rt, out, SHOWN)?;
+    Ok(())
 }
 
-fn reordered(to: Order, n: usize, hops: usize, c: &[i32], out: &mut [i32]) {
-    report::word(b"reorder");
-    show_shape(to, n, hops);
-    report::count(c.len());
+fn reordered(
+    rt: &impl Print,
+    to: Order,
+    n: usize,
+    hops: usize,
+    c: &[i32],
+    out: &mut [i32],
+) -> io::Result<()> {
+    report::word(rt, b"reorder")?;
+    show_shape(rt, to, n, hops)?;
+    report::count(rt, c.len())?;
     let code = filter_bank::reorder(to, n, hops, c, out);
-    report::count(code as usize);
-    report::coefficients(out, SHOWN);
+    report::count(rt, code as usize)?;
+    report::coefficients(rt, out, SHOWN)
 }
 
 // The inner part of a buffer.
-fn viewed(n: usize, hops: usize, out: &[i16]) {
-    report::word(b"inner");
-    report::count(n);
-    report::count(hops);
+fn viewed(rt: &impl Print, n: usize, hops: usize, out: &[i16]) -> io::Result<()> {
+    report::word(rt, b"inner")?;
+    report::count(rt, n)?;
+    report::count(rt, hops)?;
     let part = filter_bank::inner(n, hops, out);
-    report::count(part.len());
-    report::samples(part, SHOWN);
+    report::count(rt, part.len())?;
+    report::samples(rt, part, SHOWN)?;
+    Ok(())
 }
 
 fn unlike(v: i16, w: i16) -> usize
@@ -135,11 +164,11 @@ fn differing(part: &[i16], x: &[i16]) -> usize {
 }
 
 // The inner part against the recording.
-fn compared(n: usize, hops: usize, x: &[i16], out: &[i16]) {
+fn compared(rt: &impl Print, n: usize, hops: usize, x: &[i16], out: &[i16]) -> io::Result<()> {
     let part = filter_bank::inner(n, hops, out);
-    report::word(b"differ");
-    report::count(differing(part, x));
-    report::end();
+    report::word(rt, b"differ")?;
+    report::count(rt, differing(part, x))?;
+    report::end(rt)
 }
 
 // Marks at every place: what the next call writes is seen.
@@ -150,11 +179,20 @@ fn mark(out: &mut [i16]) {
 }
 
 // Coefficients back to samples.
-fn back(order: Order, n: usize, hops: usize, x: &[i16], c: &[i32], out: &mut [i16]) {
-    synthesised(order, n, hops, c, out);
-    compared(n, hops, x, out);
-    viewed(n, hops, out);
+fn back(
+    rt: &impl Print,
+    order: Order,
+    n: usize,
+    hops: usize,
+    x: &[i16],
+    c: &[i32],
+    out: &mut [i16],
+) -> io::Result<()> {
+    synthesised(rt, order, n, hops, c, out)?;
+    compared(rt, n, hops, x, out)?;
+    viewed(rt, n, hops, out)?;
     mark(out);
+    Ok(())
 }
 
 // A coefficient out of range in the last place, which is the same in both orders.
@@ -167,6 +205,7 @@ fn spoil(c: &mut [i32]) {
 
 // A recording there and back in both orders: by its coefficients as they are, ..
 fn as_they_are(
+    rt: &impl Print,
     route: Route,
     n: usize,
     hops: usize,
@@ -174,40 +213,50 @@ fn as_they_are(
     c: &mut [i32],
     d: &mut [i32],
     out: &mut [i16],
-) {
-    analysed(route, Order::ByBlock, n, hops, x, c);
-    back(Order::ByBlock, n, hops, x, c, out);
-    analysed(route, Order::ByFrequency, n, hops, x, d);
-    back(Order::ByFrequency, n, hops, x, d, out);
+) -> io::Result<()> {
+    analysed(rt, route, Order::ByBlock, n, hops, x, c)?;
+    back(rt, Order::ByBlock, n, hops, x, c, out)?;
+    analysed(rt, route, Order::ByFrequency, n, hops, x, d)?;
+    back(rt, Order::ByFrequency, n, hops, x, d, out)
 }
 
 // .. changed a little, brought to the other order and back again over others, ..
 fn changed_a_little(
+    rt: &impl Print,
     n: usize,
     hops: usize,
     x: &[i16],
     c: &mut [i32],
     d: &mut [i32],
     out: &mut [i16],
-) {
+) -> io::Result<()> {
     change(c, 3, 7);
-    reordered(Order::ByFrequency, n, hops, c, d);
-    back(Order::ByFrequency, n, hops, x, d, out);
+    reordered(rt, Order::ByFrequency, n, hops, c, d)?;
+    back(rt, Order::ByFrequency, n, hops, x, d, out)?;
     change(c, 5, 32768);
-    reordered(Order::ByBlock, n, hops, d, c);
+    reordered(rt, Order::ByBlock, n, hops, d, c)
 }
 
 // .. changed much, and with one of them out of range.
-fn changed_much(n: usize, hops: usize, x: &[i16], c: &mut [i32], d: &mut [i32], out: &mut [i16]) {
+fn changed_much(
+    rt: &impl Print,
+    n: usize,
+    hops: usize,
+    x: &[i16],
+    c: &mut [i32],
+    d: &mut [i32],
+    out: &mut [i16],
+) -> io::Result<()> {
     change(d, 4, 5000);
-    reordered(Order::ByBlock, n, hops, d, c);
-    back(Order::ByBlock, n, hops, x, c, out);
+    reordered(rt, Order::ByBlock, n, hops, d, c)?;
+    back(rt, Order::ByBlock, n, hops, x, c, out)?;
     spoil(d);
-    reordered(Order::ByBlock, n, hops, d, c);
-    back(Order::ByFrequency, n, hops, x, d, out);
+    reordered(rt, Order::ByBlock, n, hops, d, c)?;
+    back(rt, Order::ByFrequency, n, hops, x, d, out)
 }
 
 fn there_and_back(
+    rt: &impl Print,
     route: Route,
     n: usize,
     hops: usize,
@@ -215,20 +264,29 @@ fn there_and_back(
     c: &mut [i32],
     d: &mut [i32],
     out: &mut [i16],
-) {
-    as_they_are(route, n, hops, x, c, d, out);
-    changed_a_little(n, hops, x, c, d, out);
-    changed_much(n, hops, x, c, d, out);
+) -> io::Result<()> {
+    as_they_are(rt, route, n, hops, x, c, d, out)?;
+    changed_a_little(rt, n, hops, x, c, d, out)?;
+    changed_much(rt, n, hops, x, c, d, out)
 }
 
 // A recording of the first l samples of x, and room for m coefficients in either order.
-fn recorded(route: Route, n: usize, hops: usize, x: &[i16], l: usize, m: usize)
+fn recorded(
+    rt: &impl Print,
+    route: Route,
+    n: usize,
+    hops: usize,
+    x: &[i16],
+    l: usize,
+    m: usize,
+) -> io::Result<()>
     requires { (l ≤ length x.now) × (l ≤ 442476) × (m ≤ 442476) }
 {
     let mut c = [12345; ROOM];
     let mut d = [12345; ROOM];
     let mut out = [MARK; ROOM];
     there_and_back(
+        rt,
         route,
         n,
         hops,
@@ -236,7 +294,7 @@ fn recorded(route: Route, n: usize, hops: usize, x: &[i16], l: usize, m: usize)
         &mut c[..m],
         &mut d[..m],
         &mut out[..l],
-    );
+    )
 }
 
 // Silence, of which a recording is made.
@@ -255,13 +313,13 @@ fn samples(n: usize, hops: usize) -> usize
 }
 
 // A recording of noise.
-fn noisy(route: Route, n: usize, hops: usize, span: u64)
+fn noisy(rt: &impl Print, route: Route, n: usize, hops: usize, span: u64) -> io::Result<()>
     requires { (n ≤ 216) × (hops ≤ 4096) × (span ≤ 32768) }
 {
     let l = samples(n, hops);
     let mut x = silence();
     report::noise::fill(&mut x, (n + hops) as u64, span);
-    recorded(route, n, hops, &x, l, l + n / 2);
+    recorded(rt, route, n, hops, &x, l, l + n / 2)
 }
 
 // Silence but for a click in the first sample and one in the last.
@@ -275,32 +333,32 @@ fn clicks(last: usize) -> [i16; ROOM]
     x
 }
 
-fn clicked(route: Route, n: usize, hops: usize, last: usize)
+fn clicked(rt: &impl Print, route: Route, n: usize, hops: usize, last: usize) -> io::Result<()>
     requires { (n ≤ 216) × (hops ≤ 4096) × (last < 442476) }
 {
     let l = samples(n, hops);
     let x = clicks(last);
-    recorded(route, n, hops, &x, l, l + n / 2);
+    recorded(rt, route, n, hops, &x, l, l + n / 2)
 }
 
 // Recordings of few hops, from quiet to the loudest, of the most, and of none and one too many.
-fn recordings(route: Route, n: usize, m: usize)
+fn recordings(rt: &impl Print, route: Route, n: usize, m: usize) -> io::Result<()>
     requires { (n ≤ 216) × (1 ≤ m) × (m ≤ 108) }
 {
-    noisy(route, n, 1, 32768);
-    noisy(route, n, 2, 32768);
-    noisy(route, n, 3, 32768);
-    noisy(route, n, 1, 1);
-    noisy(route, n, 2, 100);
-    noisy(route, n, 1, 0);
-    noisy(route, n, 3, 0);
-    clicked(route, n, 1, m - 1);
-    clicked(route, n, 2, 2 * m - 1);
-    clicked(route, n, 3, 3 * m - 1);
-    clicked(route, n, HOPS, HOPS * m - 1);
-    noisy(route, n, HOPS, 32768);
-    noisy(route, n, 0, 32768);
-    noisy(route, n, HOPS + 1, 32768);
+    noisy(rt, route, n, 1, 32768)?;
+    noisy(rt, route, n, 2, 32768)?;
+    noisy(rt, route, n, 3, 32768)?;
+    noisy(rt, route, n, 1, 1)?;
+    noisy(rt, route, n, 2, 100)?;
+    noisy(rt, route, n, 1, 0)?;
+    noisy(rt, route, n, 3, 0)?;
+    clicked(rt, route, n, 1, m - 1)?;
+    clicked(rt, route, n, 2, 2 * m - 1)?;
+    clicked(rt, route, n, 3, 3 * m - 1)?;
+    clicked(rt, route, n, HOPS, HOPS * m - 1)?;
+    noisy(rt, route, n, HOPS, 32768)?;
+    noisy(rt, route, n, 0, 32768)?;
+    noisy(rt, route, n, HOPS + 1, 32768)
 }
 
 // A few hops of noise.
@@ -323,220 +381,251 @@ fn with(at: usize, v: i32) -> [i32; SMALL]
 }
 
 // A call by a route on l samples and a buffer of m marks.
-fn offer(route: Route, order: Order, n: usize, hops: usize, l: usize, m: usize)
+fn offer(
+    rt: &impl Print,
+    route: Route,
+    order: Order,
+    n: usize,
+    hops: usize,
+    l: usize,
+    m: usize,
+) -> io::Result<()>
     requires { (l ≤ 330) × (m ≤ 330) }
 {
     let x = noise();
     let mut out = [12345; SMALL];
-    analysed(route, order, n, hops, &x[..l], &mut out[..m]);
+    analysed(rt, route, order, n, hops, &x[..l], &mut out[..m])
 }
 
 // A call on m coefficients and a buffer of l marks.
-fn play(order: Order, n: usize, hops: usize, c: [i32; SMALL], m: usize, l: usize)
+fn play(
+    rt: &impl Print,
+    order: Order,
+    n: usize,
+    hops: usize,
+    c: [i32; SMALL],
+    m: usize,
+    l: usize,
+) -> io::Result<()>
     requires { (l ≤ 330) × (m ≤ 330) }
 {
     let mut out = [MARK; SMALL];
-    synthesised(order, n, hops, &c[..m], &mut out[..l]);
+    synthesised(rt, order, n, hops, &c[..m], &mut out[..l])
 }
 
 // A call that brings m coefficients to an order, into a buffer of l marks.
-fn bring(to: Order, n: usize, hops: usize, c: [i32; SMALL], m: usize, l: usize)
+fn bring(
+    rt: &impl Print,
+    to: Order,
+    n: usize,
+    hops: usize,
+    c: [i32; SMALL],
+    m: usize,
+    l: usize,
+) -> io::Result<()>
     requires { (l ≤ 330) × (m ≤ 330) }
 {
     let mut out = [12345; SMALL];
-    reordered(to, n, hops, &c[..m], &mut out[..l]);
+    reordered(rt, to, n, hops, &c[..m], &mut out[..l])
 }
 
 // The inner part of a buffer of l samples.
-fn part(n: usize, hops: usize, l: usize)
+fn part(rt: &impl Print, n: usize, hops: usize, l: usize) -> io::Result<()>
     requires { l ≤ 330 }
 {
     let out = noise();
-    viewed(n, hops, &out[..l]);
+    viewed(rt, n, hops, &out[..l])
 }
 
 // In an order the calls on l samples and m coefficients, these in range and with one that is not.
-fn ordered(order: Order, n: usize, hops: usize, l: usize, m: usize)
+fn ordered(
+    rt: &impl Print,
+    order: Order,
+    n: usize,
+    hops: usize,
+    l: usize,
+    m: usize,
+) -> io::Result<()>
     requires { (l ≤ 330) × (m ≤ 330) }
 {
-    offer(Route::Direct, order, n, hops, l, m);
-    offer(Route::Short, order, n, hops, l, m);
-    offer(Route::Double, order, n, hops, l, m);
-    play(order, n, hops, with(0, 1), m, l);
-    play(order, n, hops, with(0, BELOW), m, l);
+    offer(rt, Route::Direct, order, n, hops, l, m)?;
+    offer(rt, Route::Short, order, n, hops, l, m)?;
+    offer(rt, Route::Double, order, n, hops, l, m)?;
+    play(rt, order, n, hops, with(0, 1), m, l)?;
+    play(rt, order, n, hops, with(0, BELOW), m, l)
 }
 
 // Every call on l samples and m coefficients.
-fn every(n: usize, hops: usize, l: usize, m: usize)
+fn every(rt: &impl Print, n: usize, hops: usize, l: usize, m: usize) -> io::Result<()>
     requires { (l ≤ 330) × (m ≤ 330) }
 {
-    ordered(Order::ByBlock, n, hops, l, m);
-    ordered(Order::ByFrequency, n, hops, l, m);
-    part(n, hops, l);
+    ordered(rt, Order::ByBlock, n, hops, l, m)?;
+    ordered(rt, Order::ByFrequency, n, hops, l, m)?;
+    part(rt, n, hops, l)
 }
 
 // From m coefficients, in range and with one that is not, to l in the other order.
-fn exchange(n: usize, hops: usize, m: usize, l: usize)
+fn exchange(rt: &impl Print, n: usize, hops: usize, m: usize, l: usize) -> io::Result<()>
     requires { (l ≤ 330) × (m ≤ 330) }
 {
-    bring(Order::ByBlock, n, hops, with(0, 1), m, l);
-    bring(Order::ByFrequency, n, hops, with(0, 1), m, l);
-    bring(Order::ByBlock, n, hops, with(0, BELOW), m, l);
-    bring(Order::ByFrequency, n, hops, with(0, BELOW), m, l);
+    bring(rt, Order::ByBlock, n, hops, with(0, 1), m, l)?;
+    bring(rt, Order::ByFrequency, n, hops, with(0, 1), m, l)?;
+    bring(rt, Order::ByBlock, n, hops, with(0, BELOW), m, l)?;
+    bring(rt, Order::ByFrequency, n, hops, with(0, BELOW), m, l)
 }
 
 // Coefficients that are one fewer, one more or none, on either side and on both; the stated length last.
-fn exchanges(n: usize, hops: usize, m: usize)
+fn exchanges(rt: &impl Print, n: usize, hops: usize, m: usize) -> io::Result<()>
     requires { (1 ≤ m) × (m < 330) }
 {
-    exchange(n, hops, m - 1, m);
-    exchange(n, hops, m + 1, m);
-    exchange(n, hops, 0, m);
-    exchange(n, hops, m, m - 1);
-    exchange(n, hops, m, m + 1);
-    exchange(n, hops, m, 0);
-    exchange(n, hops, m - 1, m - 1);
-    exchange(n, hops, m + 1, m + 1);
-    exchange(n, hops, 0, 0);
-    exchange(n, hops, m, m);
+    exchange(rt, n, hops, m - 1, m)?;
+    exchange(rt, n, hops, m + 1, m)?;
+    exchange(rt, n, hops, 0, m)?;
+    exchange(rt, n, hops, m, m - 1)?;
+    exchange(rt, n, hops, m, m + 1)?;
+    exchange(rt, n, hops, m, 0)?;
+    exchange(rt, n, hops, m - 1, m - 1)?;
+    exchange(rt, n, hops, m + 1, m + 1)?;
+    exchange(rt, n, hops, 0, 0)?;
+    exchange(rt, n, hops, m, m)
 }
 
 // Samples and coefficients that are one fewer, one more, none, or one in place of the other; the stated lengths last.
-fn lengths(n: usize, hops: usize, l: usize, m: usize)
+fn lengths(rt: &impl Print, n: usize, hops: usize, l: usize, m: usize) -> io::Result<()>
     requires { (1 ≤ l) × (l < 330) × (1 ≤ m) × (m < 330) }
 {
-    every(n, hops, l - 1, m);
-    every(n, hops, l + 1, m);
-    every(n, hops, 0, m);
-    every(n, hops, l, m - 1);
-    every(n, hops, l, m + 1);
-    every(n, hops, l, 0);
-    every(n, hops, l - 1, m - 1);
-    every(n, hops, l + 1, m + 1);
-    every(n, hops, 0, 0);
-    every(n, hops, m, l);
-    every(n, hops, l, l);
-    every(n, hops, m, m);
-    every(n, hops, l, m);
-    exchanges(n, hops, m);
+    every(rt, n, hops, l - 1, m)?;
+    every(rt, n, hops, l + 1, m)?;
+    every(rt, n, hops, 0, m)?;
+    every(rt, n, hops, l, m - 1)?;
+    every(rt, n, hops, l, m + 1)?;
+    every(rt, n, hops, l, 0)?;
+    every(rt, n, hops, l - 1, m - 1)?;
+    every(rt, n, hops, l + 1, m + 1)?;
+    every(rt, n, hops, 0, 0)?;
+    every(rt, n, hops, m, l)?;
+    every(rt, n, hops, l, l)?;
+    every(rt, n, hops, m, m)?;
+    every(rt, n, hops, l, m)?;
+    exchanges(rt, n, hops, m)
 }
 
 // A number of hops that is not taken: with buffers of one hop, of none, and with no buffers.
-fn wrong_count(n: usize, m: usize, hops: usize)
+fn wrong_count(rt: &impl Print, n: usize, m: usize, hops: usize) -> io::Result<()>
     requires { m ≤ 108 }
 {
-    every(n, hops, m, 2 * m);
-    every(n, hops, 0, m);
-    every(n, hops, 0, 0);
-    exchange(n, hops, 2 * m, 2 * m);
-    exchange(n, hops, 0, 0);
+    every(rt, n, hops, m, 2 * m)?;
+    every(rt, n, hops, 0, m)?;
+    every(rt, n, hops, 0, 0)?;
+    exchange(rt, n, hops, 2 * m, 2 * m)?;
+    exchange(rt, n, hops, 0, 0)
 }
 
 // None, one too many, and numbers that pass for 0 or 1 where upper bits are lost: as they are, with 1 added or times M.
-fn wrong_counts(n: usize, m: usize)
+fn wrong_counts(rt: &impl Print, n: usize, m: usize) -> io::Result<()>
     requires { m ≤ 108 }
 {
-    wrong_count(n, m, 0);
-    wrong_count(n, m, HOPS + 1);
-    wrong_count(n, m, 4294967297);
-    wrong_count(n, m, 9223372036854775808);
-    wrong_count(n, m, 9223372036854775809);
-    wrong_count(n, m, 18446744073709551615);
+    wrong_count(rt, n, m, 0)?;
+    wrong_count(rt, n, m, HOPS + 1)?;
+    wrong_count(rt, n, m, 4294967297)?;
+    wrong_count(rt, n, m, 9223372036854775808)?;
+    wrong_count(rt, n, m, 9223372036854775809)?;
+    wrong_count(rt, n, m, 18446744073709551615)
 }
 
 // The coefficient v in place `at` of three blocks, or just past them.
-fn limited(n: usize, m: usize, at: usize, v: i32)
+fn limited(rt: &impl Print, n: usize, m: usize, at: usize, v: i32) -> io::Result<()>
     requires { (m ≤ 108) × (at < 330) }
 {
-    play(Order::ByBlock, n, 2, with(at, v), 3 * m, 2 * m);
-    play(Order::ByFrequency, n, 2, with(at, v), 3 * m, 2 * m);
-    bring(Order::ByBlock, n, 2, with(at, v), 3 * m, 3 * m);
-    bring(Order::ByFrequency, n, 2, with(at, v), 3 * m, 3 * m);
+    play(rt, Order::ByBlock, n, 2, with(at, v), 3 * m, 2 * m)?;
+    play(rt, Order::ByFrequency, n, 2, with(at, v), 3 * m, 2 * m)?;
+    bring(rt, Order::ByBlock, n, 2, with(at, v), 3 * m, 3 * m)?;
+    bring(rt, Order::ByFrequency, n, 2, with(at, v), 3 * m, 3 * m)
 }
 
 // In the first place of each block and in the last but that of the second, and just past them, where it is no cause.
-fn limit(n: usize, m: usize, v: i32)
+fn limit(rt: &impl Print, n: usize, m: usize, v: i32) -> io::Result<()>
     requires { (1 ≤ m) × (m ≤ 108) }
 {
-    limited(n, m, 0, v);
-    limited(n, m, m - 1, v);
-    limited(n, m, m, v);
-    limited(n, m, 2 * m, v);
-    limited(n, m, 3 * m - 1, v);
-    limited(n, m, 3 * m, v);
+    limited(rt, n, m, 0, v)?;
+    limited(rt, n, m, m - 1, v)?;
+    limited(rt, n, m, m, v)?;
+    limited(rt, n, m, 2 * m, v)?;
+    limited(rt, n, m, 3 * m - 1, v)?;
+    limited(rt, n, m, 3 * m, v)
 }
 
-fn limits(n: usize, m: usize)
+fn limits(rt: &impl Print, n: usize, m: usize) -> io::Result<()>
     requires { (1 ≤ m) × (m ≤ 108) }
 {
-    limit(n, m, MOST);
-    limit(n, m, ABOVE);
-    limit(n, m, LEAST);
-    limit(n, m, BELOW);
-    limit(n, m, 2147483647);
-    limit(n, m, -2147483648);
+    limit(rt, n, m, MOST)?;
+    limit(rt, n, m, ABOVE)?;
+    limit(rt, n, m, LEAST)?;
+    limit(rt, n, m, BELOW)?;
+    limit(rt, n, m, 2147483647)?;
+    limit(rt, n, m, -2147483648)
 }
 
 // What is refused at a length.
-fn refused(n: usize, m: usize)
+fn refused(rt: &impl Print, n: usize, m: usize) -> io::Result<()>
     requires { (1 ≤ m) × (m ≤ 108) }
 {
-    lengths(n, 1, m, 2 * m);
-    lengths(n, 2, 2 * m, 3 * m);
-    wrong_counts(n, m);
-    limits(n, m);
+    lengths(rt, n, 1, m, 2 * m)?;
+    lengths(rt, n, 2, 2 * m, 3 * m)?;
+    wrong_counts(rt, n, m)?;
+    limits(rt, n, m)
 }
 
 // A length by the direct route, by the short one too, and by all three.
-fn tabled(n: usize, m: usize)
+fn tabled(rt: &impl Print, n: usize, m: usize) -> io::Result<()>
     requires { (n ≤ 216) × (1 ≤ m) × (m ≤ 108) }
 {
-    recordings(Route::Direct, n, m);
-    refused(n, m);
+    recordings(rt, Route::Direct, n, m)?;
+    refused(rt, n, m)
 }
 
-fn tabled_twice(n: usize, m: usize)
+fn tabled_twice(rt: &impl Print, n: usize, m: usize) -> io::Result<()>
     requires { (n ≤ 216) × (1 ≤ m) × (m ≤ 108) }
 {
-    recordings(Route::Direct, n, m);
-    recordings(Route::Short, n, m);
-    refused(n, m);
+    recordings(rt, Route::Direct, n, m)?;
+    recordings(rt, Route::Short, n, m)?;
+    refused(rt, n, m)
 }
 
-fn tabled_thrice(n: usize, m: usize)
+fn tabled_thrice(rt: &impl Print, n: usize, m: usize) -> io::Result<()>
     requires { (n ≤ 216) × (1 ≤ m) × (m ≤ 108) }
 {
-    recordings(Route::Direct, n, m);
-    recordings(Route::Short, n, m);
-    recordings(Route::Double, n, m);
-    refused(n, m);
+    recordings(rt, Route::Direct, n, m)?;
+    recordings(rt, Route::Short, n, m)?;
+    recordings(rt, Route::Double, n, m)?;
+    refused(rt, n, m)
 }
 
 // A length that is not tabled: with the buffers of two hops of every length that is, with its own, and with everything else wrong too.
-fn untabled(n: usize, m: usize)
+fn untabled(rt: &impl Print, n: usize, m: usize) -> io::Result<()>
     requires { m ≤ 108 }
 {
-    every(n, 2, 12, 18);
-    every(n, 2, 24, 36);
-    every(n, 2, 36, 54);
-    every(n, 2, 72, 108);
-    every(n, 2, 108, 162);
-    every(n, 2, 216, 324);
-    lengths(n, 2, 2 * m + 1, 3 * m + 1);
-    wrong_counts(n, m);
+    every(rt, n, 2, 12, 18)?;
+    every(rt, n, 2, 24, 36)?;
+    every(rt, n, 2, 36, 54)?;
+    every(rt, n, 2, 72, 108)?;
+    every(rt, n, 2, 108, 162)?;
+    every(rt, n, 2, 216, 324)?;
+    lengths(rt, n, 2, 2 * m + 1, 3 * m + 1)?;
+    wrong_counts(rt, n, m)
 }
 
-fn main() {
-    tabled_twice(12, 6);
-    tabled_twice(24, 12);
-    tabled_thrice(36, 18);
-    tabled_thrice(72, 36);
-    tabled(108, 54);
-    tabled(216, 108);
-    untabled(0, 0);
-    untabled(11, 5);
-    untabled(48, 24);
-    untabled(18446744073709551615, 36);
-    untabled(144, 72);
-    untabled(217, 108);
+fn main(rt: HostRuntime) -> io::Result<()> {
+    tabled_twice(&rt, 12, 6)?;
+    tabled_twice(&rt, 24, 12)?;
+    tabled_thrice(&rt, 36, 18)?;
+    tabled_thrice(&rt, 72, 36)?;
+    tabled(&rt, 108, 54)?;
+    tabled(&rt, 216, 108)?;
+    untabled(&rt, 0, 0)?;
+    untabled(&rt, 11, 5)?;
+    untabled(&rt, 48, 24)?;
+    untabled(&rt, 18446744073709551615, 36)?;
+    untabled(&rt, 144, 72)?;
+    untabled(&rt, 217, 108)
 }

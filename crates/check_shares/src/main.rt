@@ -1,4 +1,6 @@
 // Which coefficient moved a sample, through the public calls, compared with what vectors/shares.py makes from the definitions.
+#![tactic(auto)]
+
 mod recordings;
 
 ghost use Rattle.std.specs.Prelude.{◌≤◌, ◌<◌, ◌/◌, ◌^◌, T};
@@ -6,6 +8,7 @@ ghost use Rattle.cosine.specs.Kernels.{tabled};
 
 use report::noise::random;
 use share_calls::Share;
+use std::io;
 
 // Room for the coefficients of a block, and for buffers that are too long.
 const ROOM: usize = 112;
@@ -37,7 +40,7 @@ const NOISES: usize = 48;
 const CHOICES: usize = 64;
 
 // The original coefficients of a block and the changed ones.
-#[derive(Drop)]
+#[derive(Clone, Copy)]
 struct Block {
     original: [i32; ROOM],
     changed: [i32; ROOM],
@@ -50,26 +53,27 @@ fn flag(any: bool) -> usize {
     0
 }
 
-fn show(s: Share) {
-    report::count(s.code as usize);
-    report::count(flag(s.any));
-    report::count(s.block as usize);
-    report::count(s.coefficient as usize);
+fn show(rt: &impl Print, s: Share) -> io::Result<()> {
+    report::count(rt, s.code as usize)?;
+    report::count(rt, flag(s.any))?;
+    report::count(rt, s.block as usize)?;
+    report::count(rt, s.coefficient as usize)
 }
 
-fn show_number(v: u32) {
-    report::count(v as usize);
+fn show_number(rt: &impl Print, v: u32) -> io::Result<()> {
+    report::count(rt, v as usize)
 }
 
-fn show_numbers(numbers: [u32; NUMBERS]) {
-    show_number(numbers[0]);
-    show_number(numbers[1]);
-    show_number(numbers[2]);
-    show_number(numbers[3]);
+fn show_numbers(rt: &impl Print, numbers: [u32; NUMBERS]) -> io::Result<()> {
+    show_number(rt, numbers[0])?;
+    show_number(rt, numbers[1])?;
+    show_number(rt, numbers[2])?;
+    show_number(rt, numbers[3])
 }
 
 // Behind the word for a case: what both calls are asked and what they answer.
 fn told(
+    rt: &impl Print,
     n: usize,
     shape: u32,
     first: &[i32],
@@ -78,19 +82,22 @@ fn told(
     second_changed: &[i32],
     place: usize,
     named: &mut [u32],
-) {
-    report::count(n);
-    report::count(shape as usize);
-    report::count(place);
-    show(filter_bank::largest_share(
-        n,
-        shape,
-        first,
-        first_changed,
-        second,
-        second_changed,
-        place,
-    ));
+) -> io::Result<()> {
+    report::count(rt, n)?;
+    report::count(rt, shape as usize)?;
+    report::count(rt, place)?;
+    show(
+        rt,
+        filter_bank::largest_share(
+            n,
+            shape,
+            first,
+            first_changed,
+            second,
+            second_changed,
+            place,
+        ),
+    )?;
     let code = filter_bank::name_share(
         n,
         shape,
@@ -101,11 +108,12 @@ fn told(
         place,
         named,
     );
-    report::count(code as usize);
+    report::count(rt, code as usize)
 }
 
 // The calls on the first p, q, r and s coefficients of four, and the first `room` of four numbers, which are all shown afterwards.
 fn lend(
+    rt: &impl Print,
     n: usize,
     shape: u32,
     place: usize,
@@ -118,11 +126,12 @@ fn lend(
     r: usize,
     s: usize,
     room: usize,
-)
+) -> io::Result<()>
     requires { (p ≤ 112) × (q ≤ 112) × (r ≤ 112) × (s ≤ 112) × (room ≤ 4) }
 {
     let mut named = [12345; NUMBERS];
     told(
+        rt,
         n,
         shape,
         &a[..p],
@@ -131,12 +140,13 @@ fn lend(
         &d[..s],
         place,
         &mut named[..room],
-    );
-    show_numbers(named);
-    report::end();
+    )?;
+    show_numbers(rt, named)?;
+    report::end(rt)
 }
 
 fn offer(
+    rt: &impl Print,
     n: usize,
     shape: u32,
     place: usize,
@@ -147,22 +157,29 @@ fn offer(
     r: usize,
     s: usize,
     room: usize,
-)
+) -> io::Result<()>
     requires { (p ≤ 112) × (q ≤ 112) × (r ≤ 112) × (s ≤ 112) × (room ≤ 4) }
 {
     let a = earlier.original;
     let b = earlier.changed;
     let c = later.original;
     let d = later.changed;
-    lend(n, shape, place, a, b, c, d, p, q, r, s, room);
+    lend(rt, n, shape, place, a, b, c, d, p, q, r, s, room)
 }
 
 // The same with every length as it should be.
-fn asked(n: usize, shape: u32, place: usize, earlier: Block, later: Block)
+fn asked(
+    rt: &impl Print,
+    n: usize,
+    shape: u32,
+    place: usize,
+    earlier: Block,
+    later: Block,
+) -> io::Result<()>
     requires { n ≤ 216 }
 {
     let m = n / 2;
-    offer(n, shape, place, earlier, later, m, m, m, m, 3);
+    offer(rt, n, shape, place, earlier, later, m, m, m, m, 3)
 }
 
 // Noise of a seed and a span.
@@ -250,41 +267,42 @@ fn all_moved(d: u64) -> Block
 
 // Every coefficient of the earlier block changes by d, and every one of the later by e. Where 3 divides 2i + 1 + M, i the place in a block, three coefficients or more have
 // its largest K: ties within a block.
-fn alike(n: usize, shape: u32, place: usize, d: u64, e: u64)
+fn alike(rt: &impl Print, n: usize, shape: u32, place: usize, d: u64, e: u64) -> io::Result<()>
     requires { (n ≤ 216) × (d ≤ 2 ^ 30) × (e ≤ 2 ^ 30) }
 {
-    report::word(b"alike");
-    report::count(d as usize);
-    report::count(e as usize);
-    asked(n, shape, place, all_moved(d), all_moved(e));
+    report::word(rt, b"alike")?;
+    report::count(rt, d as usize)?;
+    report::count(rt, e as usize)?;
+    asked(rt, n, shape, place, all_moved(d), all_moved(e))
 }
 
-fn still(n: usize, shape: u32, place: usize)
+fn still(rt: &impl Print, n: usize, shape: u32, place: usize) -> io::Result<()>
     requires { n ≤ 216 }
 {
-    report::word(b"still");
-    asked(n, shape, place, quiet(1), quiet(2));
+    report::word(rt, b"still")?;
+    asked(rt, n, shape, place, quiet(1), quiet(2))
 }
 
 // No change; the least and the largest, in either block or in both. A block whose W is 0 is never named.
-fn at_place(n: usize, shape: u32, place: usize)
+fn at_place(rt: &impl Print, n: usize, shape: u32, place: usize) -> io::Result<()>
     requires { n ≤ 216 }
 {
-    still(n, shape, place);
-    alike(n, shape, place, 1, 0);
-    alike(n, shape, place, 0, 1);
-    alike(n, shape, place, 1, 1);
-    alike(n, shape, place, WHOLE, 0);
-    alike(n, shape, place, 0, WHOLE);
-    alike(n, shape, place, WHOLE, WHOLE);
+    still(rt, n, shape, place)?;
+    alike(rt, n, shape, place, 1, 0)?;
+    alike(rt, n, shape, place, 0, 1)?;
+    alike(rt, n, shape, place, 1, 1)?;
+    alike(rt, n, shape, place, WHOLE, 0)?;
+    alike(rt, n, shape, place, 0, WHOLE)?;
+    alike(rt, n, shape, place, WHOLE, WHOLE)
 }
 
-fn every_place(n: usize, shape: u32)
+fn every_place(rt: &impl Print, n: usize, shape: u32) -> io::Result<()>
     requires { n ≤ 216 }
 {
     for place in 0..n / 2 {
-        at_place(n, shape, place);
+        at_place(rt, n, shape, place)?;
     }
+    Ok(())
 }
 
 // The block x, changed if it is the one that is meant.
@@ -305,64 +323,66 @@ fn rest(a: usize, count: usize) -> usize
 }
 
 // One coefficient changes: each is looked at.
-fn one(n: usize, shape: u32, place: usize, block: usize, k: usize, d: u64)
+fn one(
+    rt: &impl Print,
+    n: usize,
+    shape: u32,
+    place: usize,
+    block: usize,
+    k: usize,
+    d: u64,
+) -> io::Result<()>
     requires { (n ≤ 216) × (k < 112) × (d ≤ 2 ^ 30) }
 {
-    report::word(b"one");
-    report::count(block);
-    report::count(k);
-    report::count(d as usize);
+    report::word(rt, b"one")?;
+    report::count(rt, block)?;
+    report::count(rt, k)?;
+    report::count(rt, d as usize)?;
     let earlier = moved_in(quiet(1), EARLIER, block, k, d);
     let later = moved_in(quiet(2), LATER, block, k, d);
-    asked(n, shape, place, earlier, later);
+    asked(rt, n, shape, place, earlier, later)
 }
 
 // In either block and at either shape, by the least change or by the largest.
-fn ones_at(n: usize, place: usize, k: usize)
+fn ones_at(rt: &impl Print, n: usize, place: usize, k: usize) -> io::Result<()>
     requires { (n ≤ 216) × (k < 112) }
 {
-    one(n, LONG, place, EARLIER, k, 1);
-    one(n, LONG, place, LATER, k, WHOLE);
-    one(n, SHORT, place, EARLIER, k, WHOLE);
-    one(n, SHORT, place, LATER, k, 1);
+    one(rt, n, LONG, place, EARLIER, k, 1)?;
+    one(rt, n, LONG, place, LATER, k, WHOLE)?;
+    one(rt, n, SHORT, place, EARLIER, k, WHOLE)?;
+    one(rt, n, SHORT, place, LATER, k, 1)
 }
 
-fn ones(n: usize)
+fn ones(rt: &impl Print, n: usize) -> io::Result<()>
     requires { (12 ≤ n) × (n ≤ 216) }
 {
     for k in 0..n / 2 {
-        ones_at(n, rest(7 * k + 3, n / 2), k);
+        ones_at(rt, n, rest(7 * k + 3, n / 2), k)?;
     }
+    Ok(())
 }
 
-fn show_pair(a: usize, j: usize, d: u64, b: usize, k: usize, e: u64) {
-    report::word(b"pair");
-    report::count(a);
-    report::count(j);
-    report::count(d as usize);
-    report::count(b);
-    report::count(k);
-    report::count(e as usize);
+fn show_pair(
+    rt: &impl Print,
+    a: usize,
+    j: usize,
+    d: u64,
+    b: usize,
+    k: usize,
+    e: u64,
+) -> io::Result<()> {
+    report::word(rt, b"pair")?;
+    report::count(rt, a)?;
+    report::count(rt, j)?;
+    report::count(rt, d as usize)?;
+    report::count(rt, b)?;
+    report::count(rt, k)?;
+    report::count(rt, e as usize)
 }
 
 // Two coefficients change, each in its block.
-fn pair(n: usize, shape: u32, place: usize, a: usize, j: usize, d: u64, b: usize, k: usize, e: u64)
-    requires { (n ≤ 216) × (j < 112) × (d ≤ 2 ^ 30) × (k < 112) × (e ≤ 2 ^ 30) }
-{
-    show_pair(a, j, d, b, k, e);
-    let earlier = moved_in(quiet(1), EARLIER, a, j, d);
-    let later = moved_in(quiet(2), LATER, a, j, d);
-    asked(
-        n,
-        shape,
-        place,
-        moved_in(earlier, EARLIER, b, k, e),
-        moved_in(later, LATER, b, k, e),
-    );
-}
-
-// Equal shares, and one more on either side.
-fn beside(
+fn pair(
+    rt: &impl Print,
     n: usize,
     shape: u32,
     place: usize,
@@ -372,12 +392,40 @@ fn beside(
     b: usize,
     k: usize,
     e: u64,
-)
+) -> io::Result<()>
+    requires { (n ≤ 216) × (j < 112) × (d ≤ 2 ^ 30) × (k < 112) × (e ≤ 2 ^ 30) }
+{
+    show_pair(rt, a, j, d, b, k, e)?;
+    let earlier = moved_in(quiet(1), EARLIER, a, j, d);
+    let later = moved_in(quiet(2), LATER, a, j, d);
+    asked(
+        rt,
+        n,
+        shape,
+        place,
+        moved_in(earlier, EARLIER, b, k, e),
+        moved_in(later, LATER, b, k, e),
+    )
+}
+
+// Equal shares, and one more on either side.
+fn beside(
+    rt: &impl Print,
+    n: usize,
+    shape: u32,
+    place: usize,
+    a: usize,
+    j: usize,
+    d: u64,
+    b: usize,
+    k: usize,
+    e: u64,
+) -> io::Result<()>
     requires { (n ≤ 216) × (j < 112) × (d < 2 ^ 30) × (k < 112) × (e < 2 ^ 30) }
 {
-    pair(n, shape, place, a, j, d, b, k, e);
-    pair(n, shape, place, a, j, d + 1, b, k, e);
-    pair(n, shape, place, a, j, d, b, k, e + 1);
+    pair(rt, n, shape, place, a, j, d, b, k, e)?;
+    pair(rt, n, shape, place, a, j, d + 1, b, k, e)?;
+    pair(rt, n, shape, place, a, j, d, b, k, e + 1)
 }
 
 // The size of K(i,k).
@@ -407,22 +455,31 @@ fn fall_size(n: usize, shape: u32, place: usize) -> u64
 }
 
 // A tie within a block at its place i: each of two coefficients changes by 15 times the other's K.
-fn tied(n: usize, shape: u32, place: usize, block: usize, i: usize, j: usize, k: usize)
+fn tied(
+    rt: &impl Print,
+    n: usize,
+    shape: u32,
+    place: usize,
+    block: usize,
+    i: usize,
+    j: usize,
+    k: usize,
+) -> io::Result<()>
     requires { T (tabled n) × (n ≤ 216) × (i < n) × (j < n / 2) × (k < n / 2) }
 {
     let d = 15 * kernel_size(n, i, k);
     let e = 15 * kernel_size(n, i, j);
-    beside(n, shape, place, block, j, d, block, k, e);
+    beside(rt, n, shape, place, block, j, d, block, k, e)
 }
 
-fn ties_at(n: usize, shape: u32, place: usize)
+fn ties_at(rt: &impl Print, n: usize, shape: u32, place: usize) -> io::Result<()>
     requires { T (tabled n) × (12 ≤ n) × (n ≤ 216) × (place < n / 2) }
 {
     let m = n / 2;
     let j = rest(5 * place, m);
     let k = rest(j + 1 + rest(place, m - 1), m);
-    tied(n, shape, place, EARLIER, m + place, j, k);
-    tied(n, shape, place, LATER, place, j, k);
+    tied(rt, n, shape, place, EARLIER, m + place, j, k)?;
+    tied(rt, n, shape, place, LATER, place, j, k)
 }
 
 // The first coefficient whose K at place i has this size, or M.
@@ -442,25 +499,27 @@ fn with_size(n: usize, i: usize, size: u64) -> usize
 
 // A tie between the blocks. The earlier block's coefficient is one whose K is as large as W of the later block: that W is then in both shares, and the changes have to make up
 // for W of the earlier block and K of the later one alone.
-fn tied_blocks(n: usize, shape: u32, place: usize, k: usize)
+fn tied_blocks(rt: &impl Print, n: usize, shape: u32, place: usize, k: usize) -> io::Result<()>
     requires { T (tabled n) × (12 ≤ n) × (n ≤ 216) × (place < n / 2) × (k < n / 2) }
 {
     let j = with_size(n, n / 2 + place, rise_size(n, shape, place));
     if j < n / 2 {
         let d = 15 * kernel_size(n, place, k);
         let e = 15 * fall_size(n, shape, place);
-        beside(n, shape, place, EARLIER, j, d, LATER, k, e);
+        beside(rt, n, shape, place, EARLIER, j, d, LATER, k, e)?;
     }
+    Ok(())
 }
 
-fn ties(n: usize)
+fn ties(rt: &impl Print, n: usize) -> io::Result<()>
     requires { T (tabled n) × (12 ≤ n) × (n ≤ 216) }
 {
     for place in 0..n / 2 {
-        ties_at(n, (place % 2) as u32, place);
-        tied_blocks(n, LONG, place, rest(3 * place, n / 2));
-        tied_blocks(n, SHORT, place, rest(3 * place, n / 2));
+        ties_at(rt, n, (place % 2) as u32, place)?;
+        tied_blocks(rt, n, LONG, place, rest(3 * place, n / 2))?;
+        tied_blocks(rt, n, SHORT, place, rest(3 * place, n / 2))?;
     }
+    Ok(())
 }
 
 // How far random coefficients reach, by turns.
@@ -495,80 +554,91 @@ fn pick(r: u64, count: usize) -> usize
     rest((r / 65536) as usize, count)
 }
 
-fn noise_at(n: usize, t: usize)
+fn noise_at(rt: &impl Print, n: usize, t: usize) -> io::Result<()>
     requires { (12 ≤ n) × (n ≤ 216) × (t < 48) }
 {
     let seed = (100 * n + 2 * t) as u64;
     let place = pick(random(seed), n / 2);
     let span = span_of(t);
-    report::word(b"noise");
-    report::count(t);
+    report::word(rt, b"noise")?;
+    report::count(rt, t)?;
     asked(
+        rt,
         n,
         (t % 2) as u32,
         place,
         noisy(seed, span),
         noisy(seed + 1, span),
-    );
+    )
 }
 
-fn noises(n: usize)
+fn noises(rt: &impl Print, n: usize) -> io::Result<()>
     requires { (12 ≤ n) × (n ≤ 216) }
 {
     for t in 0..NOISES {
-        noise_at(n, t);
+        noise_at(rt, n, t)?;
     }
+    Ok(())
 }
 
 // Numbers that are no shape, some of which are one where upper bits are lost.
-fn wrong_shape(n: usize, shape: u32)
+fn wrong_shape(rt: &impl Print, n: usize, shape: u32) -> io::Result<()>
     requires { n ≤ 216 }
 {
-    report::word(b"shape");
-    asked(n, shape, 1, noisy(3, 1000), noisy(4, 1000));
+    report::word(rt, b"shape")?;
+    asked(rt, n, shape, 1, noisy(3, 1000), noisy(4, 1000))
 }
 
-fn wrong_shapes(n: usize)
+fn wrong_shapes(rt: &impl Print, n: usize) -> io::Result<()>
     requires { n ≤ 216 }
 {
-    wrong_shape(n, 2);
-    wrong_shape(n, 3);
-    wrong_shape(n, 256);
-    wrong_shape(n, 65537);
-    wrong_shape(n, 2147483648);
-    wrong_shape(n, 4294967295);
+    wrong_shape(rt, n, 2)?;
+    wrong_shape(rt, n, 3)?;
+    wrong_shape(rt, n, 256)?;
+    wrong_shape(rt, n, 65537)?;
+    wrong_shape(rt, n, 2147483648)?;
+    wrong_shape(rt, n, 4294967295)
 }
 
 // The last place of a hop, and such as lie outside.
-fn some_place(n: usize, place: usize)
+fn some_place(rt: &impl Print, n: usize, place: usize) -> io::Result<()>
     requires { n ≤ 216 }
 {
-    report::word(b"place");
-    asked(n, LONG, place, noisy(3, 1000), noisy(4, 1000));
+    report::word(rt, b"place")?;
+    asked(rt, n, LONG, place, noisy(3, 1000), noisy(4, 1000))
 }
 
-fn places(n: usize)
+fn places(rt: &impl Print, n: usize) -> io::Result<()>
     requires { (12 ≤ n) × (n ≤ 216) }
 {
-    some_place(n, n / 2 - 1);
-    some_place(n, n / 2);
-    some_place(n, n / 2 + 1);
-    some_place(n, n - 1);
-    some_place(n, 4294967296);
-    some_place(n, 18446744073709551615);
+    some_place(rt, n, n / 2 - 1)?;
+    some_place(rt, n, n / 2)?;
+    some_place(rt, n, n / 2 + 1)?;
+    some_place(rt, n, n - 1)?;
+    some_place(rt, n, 4294967296)?;
+    some_place(rt, n, 18446744073709551615)
 }
 
 // Other lengths of the four, and of the room.
-fn sized(n: usize, p: usize, q: usize, r: usize, s: usize, room: usize)
+fn sized(
+    rt: &impl Print,
+    n: usize,
+    p: usize,
+    q: usize,
+    r: usize,
+    s: usize,
+    room: usize,
+) -> io::Result<()>
     requires { (p ≤ 112) × (q ≤ 112) × (r ≤ 112) × (s ≤ 112) × (room ≤ 4) }
 {
-    report::word(b"sized");
-    report::count(p);
-    report::count(q);
-    report::count(r);
-    report::count(s);
-    report::count(room);
+    report::word(rt, b"sized")?;
+    report::count(rt, p)?;
+    report::count(rt, q)?;
+    report::count(rt, r)?;
+    report::count(rt, s)?;
+    report::count(rt, room)?;
     offer(
+        rt,
         n,
         SHORT,
         1,
@@ -579,35 +649,35 @@ fn sized(n: usize, p: usize, q: usize, r: usize, s: usize, room: usize)
         r,
         s,
         room,
-    );
+    )
 }
 
 // One by one, and all at once.
-fn wrong_length(n: usize, m: usize, l: usize)
+fn wrong_length(rt: &impl Print, n: usize, m: usize, l: usize) -> io::Result<()>
     requires { (m ≤ 112) × (l ≤ 112) }
 {
-    sized(n, l, m, m, m, 3);
-    sized(n, m, l, m, m, 3);
-    sized(n, m, m, l, m, 3);
-    sized(n, m, m, m, l, 3);
-    sized(n, l, l, l, l, 3);
+    sized(rt, n, l, m, m, m, 3)?;
+    sized(rt, n, m, l, m, m, 3)?;
+    sized(rt, n, m, m, l, m, 3)?;
+    sized(rt, n, m, m, m, l, 3)?;
+    sized(rt, n, l, l, l, l, 3)
 }
 
-fn wrong_lengths(n: usize)
+fn wrong_lengths(rt: &impl Print, n: usize) -> io::Result<()>
     requires { (12 ≤ n) × (n ≤ 216) }
 {
-    wrong_length(n, n / 2, n / 2 - 1);
-    wrong_length(n, n / 2, n / 2 + 1);
-    wrong_length(n, n / 2, 0);
+    wrong_length(rt, n, n / 2, n / 2 - 1)?;
+    wrong_length(rt, n, n / 2, n / 2 + 1)?;
+    wrong_length(rt, n, n / 2, 0)
 }
 
-fn rooms(n: usize, m: usize)
+fn rooms(rt: &impl Print, n: usize, m: usize) -> io::Result<()>
     requires { m ≤ 112 }
 {
-    sized(n, m, m, m, m, 0);
-    sized(n, m, m, m, m, 1);
-    sized(n, m, m, m, m, 2);
-    sized(n, m, m, m, m, 4);
+    sized(rt, n, m, m, m, m, 0)?;
+    sized(rt, n, m, m, m, m, 1)?;
+    sized(rt, n, m, m, m, m, 2)?;
+    sized(rt, n, m, m, m, m, 4)
 }
 
 // A block with coefficient k put in place of its own, in its original list if `which` is `here`, in its changed one if it is one more.
@@ -631,43 +701,43 @@ fn spoilt(x: Block, here: usize, which: usize, k: usize, v: i32) -> Block
     x
 }
 
-fn show_value(v: i32) {
-    report::field(v as i64);
+fn show_value(rt: &impl Print, v: i32) -> io::Result<()> {
+    report::field(rt, v as i64)
 }
 
-fn beyond_in(n: usize, which: usize, k: usize, v: i32)
+fn beyond_in(rt: &impl Print, n: usize, which: usize, k: usize, v: i32) -> io::Result<()>
     requires { (n ≤ 216) × (k < 112) }
 {
-    report::word(b"beyond");
-    report::count(which);
-    report::count(k);
-    show_value(v);
+    report::word(rt, b"beyond")?;
+    report::count(rt, which)?;
+    report::count(rt, k)?;
+    show_value(rt, v)?;
     let earlier = spoilt(noisy(3, 1000), 0, which, k, v);
     let later = spoilt(noisy(4, 1000), 2, which, k, v);
-    asked(n, LONG, 1, earlier, later);
+    asked(rt, n, LONG, 1, earlier, later)
 }
 
 // Each of the four lists.
-fn beyond(n: usize, k: usize, v: i32)
+fn beyond(rt: &impl Print, n: usize, k: usize, v: i32) -> io::Result<()>
     requires { (n ≤ 216) × (k < 112) }
 {
-    beyond_in(n, 0, k, v);
-    beyond_in(n, 1, k, v);
-    beyond_in(n, 2, k, v);
-    beyond_in(n, 3, k, v);
+    beyond_in(rt, n, 0, k, v)?;
+    beyond_in(rt, n, 1, k, v)?;
+    beyond_in(rt, n, 2, k, v)?;
+    beyond_in(rt, n, 3, k, v)
 }
 
 // At the first coefficient, the last and between them; just behind the last it is not looked at, and at the limit itself it is taken.
-fn limits(n: usize)
+fn limits(rt: &impl Print, n: usize) -> io::Result<()>
     requires { (12 ≤ n) × (n ≤ 216) }
 {
-    beyond(n, 0, ABOVE);
-    beyond(n, n / 2 - 1, BELOW);
-    beyond(n, n / 4, 2147483647);
-    beyond(n, 1, -2147483648);
-    beyond(n, n / 2, ABOVE);
-    beyond(n, 0, ABOVE - 1);
-    beyond(n, n / 2 - 1, BELOW + 1);
+    beyond(rt, n, 0, ABOVE)?;
+    beyond(rt, n, n / 2 - 1, BELOW)?;
+    beyond(rt, n, n / 4, 2147483647)?;
+    beyond(rt, n, 1, -2147483648)?;
+    beyond(rt, n, n / 2, ABOVE)?;
+    beyond(rt, n, 0, ABOVE - 1)?;
+    beyond(rt, n, n / 2 - 1, BELOW + 1)
 }
 
 // Whether a choice of causes has the one of this bit.
@@ -729,13 +799,14 @@ fn damaged_value(choice: usize) -> i32 {
     0
 }
 
-fn causes_of(n: usize, m: usize, choice: usize)
+fn causes_of(rt: &impl Print, n: usize, m: usize, choice: usize) -> io::Result<()>
     requires { (n ≤ 216) × (1 ≤ m) × (m ≤ 108) }
 {
     let l = damaged_length(m, choice);
-    report::word(b"causes");
-    report::count(choice);
+    report::word(rt, b"causes")?;
+    report::count(rt, choice)?;
     offer(
+        rt,
         damaged_n(n, choice),
         damaged_shape(choice),
         damaged_place(m, choice),
@@ -746,39 +817,41 @@ fn causes_of(n: usize, m: usize, choice: usize)
         l,
         l,
         damaged_room(choice),
-    );
+    )
 }
 
 // Every choice of the causes: the first in their order is answered.
-fn causes(n: usize)
+fn causes(rt: &impl Print, n: usize) -> io::Result<()>
     requires { (12 ≤ n) × (n ≤ 216) }
 {
     for choice in 0..CHOICES {
-        causes_of(n, n / 2, choice);
+        causes_of(rt, n, n / 2, choice)?;
     }
+    Ok(())
 }
 
-fn refusals(n: usize)
+fn refusals(rt: &impl Print, n: usize) -> io::Result<()>
     requires { (12 ≤ n) × (n ≤ 216) }
 {
-    wrong_shapes(n);
-    places(n);
-    wrong_lengths(n);
-    rooms(n, n / 2);
-    limits(n);
-    causes(n);
+    wrong_shapes(rt, n)?;
+    places(rt, n)?;
+    wrong_lengths(rt, n)?;
+    rooms(rt, n, n / 2)?;
+    limits(rt, n)?;
+    causes(rt, n)
 }
 
 // A length that is not tabled: 1 with the lists of m, with none, with a shape that is none and a place outside, and with a coefficient out of range.
-fn untabled(n: usize, m: usize)
+fn untabled(rt: &impl Print, n: usize, m: usize) -> io::Result<()>
     requires { m ≤ 108 }
 {
-    sized(n, m, m, m, m, 3);
-    sized(n, 0, 0, 0, 0, 0);
-    report::word(b"untabled");
-    offer(n, 2, m, noisy(3, 1000), noisy(4, 1000), m, m, m, m, 3);
-    report::word(b"untabled");
+    sized(rt, n, m, m, m, m, 3)?;
+    sized(rt, n, 0, 0, 0, 0, 0)?;
+    report::word(rt, b"untabled")?;
+    offer(rt, n, 2, m, noisy(3, 1000), noisy(4, 1000), m, m, m, m, 3)?;
+    report::word(rt, b"untabled")?;
     offer(
+        rt,
         n,
         LONG,
         0,
@@ -789,160 +862,161 @@ fn untabled(n: usize, m: usize)
         m,
         m,
         3,
-    );
+    )
 }
 
-fn offered(n: usize)
+fn offered(rt: &impl Print, n: usize) -> io::Result<()>
     requires { T (tabled n) × (12 ≤ n) × (n ≤ 216) }
 {
-    every_place(n, LONG);
-    every_place(n, SHORT);
-    ones(n);
-    ties(n);
-    noises(n);
-    refusals(n);
+    every_place(rt, n, LONG)?;
+    every_place(rt, n, SHORT)?;
+    ones(rt, n)?;
+    ties(rt, n)?;
+    noises(rt, n)?;
+    refusals(rt, n)
 }
 
 // Shares that differ and are the same number in 64-bit floats, as vectors/shares.py finds them: in the first eight lines of each length in one block, where they differ by
 // its W, and in the others between the blocks.
-fn near_12() {
-    pair(12, 0, 0, 0, 0, 1068881181, 0, 4, 917869070);
-    pair(12, 0, 3, 1, 3, 1068881181, 1, 4, 917869070);
-    pair(12, 1, 2, 1, 3, 1068881181, 1, 4, 917869070);
-    pair(12, 0, 2, 0, 0, 837217439, 0, 2, 1046261341);
-    pair(12, 0, 2, 0, 2, 1068881181, 0, 1, 917869070);
-    pair(12, 0, 5, 1, 5, 1068881181, 1, 1, 917869070);
-    pair(12, 1, 3, 0, 2, 1068881181, 0, 1, 917869070);
-    pair(12, 0, 0, 0, 2, 837217439, 0, 0, 1046261341);
-    pair(12, 1, 3, 0, 4, 366800261, 1, 0, 445446911);
-    pair(12, 0, 2, 0, 5, 903201324, 1, 5, 154964839);
-    pair(12, 1, 2, 0, 5, 334795525, 1, 5, 106410484);
-    pair(12, 0, 3, 0, 0, 63987208, 1, 4, 52689837);
-    pair(12, 1, 2, 0, 5, 445446911, 1, 1, 366800261);
-    pair(12, 0, 3, 0, 0, 154964839, 1, 0, 903201324);
-    pair(12, 1, 3, 0, 0, 106410484, 1, 0, 334795525);
-    pair(12, 0, 2, 0, 1, 52689837, 1, 5, 63987208);
+fn near_12(rt: &impl Print) -> io::Result<()> {
+    pair(rt, 12, 0, 0, 0, 0, 1068881181, 0, 4, 917869070)?;
+    pair(rt, 12, 0, 3, 1, 3, 1068881181, 1, 4, 917869070)?;
+    pair(rt, 12, 1, 2, 1, 3, 1068881181, 1, 4, 917869070)?;
+    pair(rt, 12, 0, 2, 0, 0, 837217439, 0, 2, 1046261341)?;
+    pair(rt, 12, 0, 2, 0, 2, 1068881181, 0, 1, 917869070)?;
+    pair(rt, 12, 0, 5, 1, 5, 1068881181, 1, 1, 917869070)?;
+    pair(rt, 12, 1, 3, 0, 2, 1068881181, 0, 1, 917869070)?;
+    pair(rt, 12, 0, 0, 0, 2, 837217439, 0, 0, 1046261341)?;
+    pair(rt, 12, 1, 3, 0, 4, 366800261, 1, 0, 445446911)?;
+    pair(rt, 12, 0, 2, 0, 5, 903201324, 1, 5, 154964839)?;
+    pair(rt, 12, 1, 2, 0, 5, 334795525, 1, 5, 106410484)?;
+    pair(rt, 12, 0, 3, 0, 0, 63987208, 1, 4, 52689837)?;
+    pair(rt, 12, 1, 2, 0, 5, 445446911, 1, 1, 366800261)?;
+    pair(rt, 12, 0, 3, 0, 0, 154964839, 1, 0, 903201324)?;
+    pair(rt, 12, 1, 3, 0, 0, 106410484, 1, 0, 334795525)?;
+    pair(rt, 12, 0, 2, 0, 1, 52689837, 1, 5, 63987208)
 }
 
-fn near_24() {
-    pair(24, 0, 0, 0, 4, 1056517685, 0, 6, 1038440371);
-    pair(24, 0, 5, 1, 10, 1056517685, 1, 11, 1038440371);
-    pair(24, 1, 6, 1, 10, 1056517685, 1, 11, 1038440371);
-    pair(24, 0, 6, 0, 1, 1028178956, 0, 2, 1064938963);
-    pair(24, 0, 6, 0, 1, 1056517685, 0, 0, 1038440371);
-    pair(24, 0, 11, 1, 7, 1056517685, 1, 5, 1038440371);
-    pair(24, 1, 5, 0, 1, 1056517685, 0, 0, 1038440371);
-    pair(24, 0, 5, 1, 10, 1028178956, 1, 9, 1064938963);
-    pair(24, 1, 6, 0, 10, 4176205, 1, 0, 8323607);
-    pair(24, 0, 5, 0, 3, 183280867, 1, 3, 423793383);
-    pair(24, 1, 5, 0, 10, 132258199, 1, 0, 590428335);
-    pair(24, 0, 6, 0, 6, 202942517, 1, 6, 156080602);
-    pair(24, 1, 5, 0, 11, 8323607, 1, 1, 4176205);
-    pair(24, 0, 6, 0, 8, 423793383, 1, 8, 183280867);
-    pair(24, 1, 6, 0, 11, 590428335, 1, 1, 132258199);
-    pair(24, 0, 5, 0, 5, 156080602, 1, 5, 202942517);
+fn near_24(rt: &impl Print) -> io::Result<()> {
+    pair(rt, 24, 0, 0, 0, 4, 1056517685, 0, 6, 1038440371)?;
+    pair(rt, 24, 0, 5, 1, 10, 1056517685, 1, 11, 1038440371)?;
+    pair(rt, 24, 1, 6, 1, 10, 1056517685, 1, 11, 1038440371)?;
+    pair(rt, 24, 0, 6, 0, 1, 1028178956, 0, 2, 1064938963)?;
+    pair(rt, 24, 0, 6, 0, 1, 1056517685, 0, 0, 1038440371)?;
+    pair(rt, 24, 0, 11, 1, 7, 1056517685, 1, 5, 1038440371)?;
+    pair(rt, 24, 1, 5, 0, 1, 1056517685, 0, 0, 1038440371)?;
+    pair(rt, 24, 0, 5, 1, 10, 1028178956, 1, 9, 1064938963)?;
+    pair(rt, 24, 1, 6, 0, 10, 4176205, 1, 0, 8323607)?;
+    pair(rt, 24, 0, 5, 0, 3, 183280867, 1, 3, 423793383)?;
+    pair(rt, 24, 1, 5, 0, 10, 132258199, 1, 0, 590428335)?;
+    pair(rt, 24, 0, 6, 0, 6, 202942517, 1, 6, 156080602)?;
+    pair(rt, 24, 1, 5, 0, 11, 8323607, 1, 1, 4176205)?;
+    pair(rt, 24, 0, 6, 0, 8, 423793383, 1, 8, 183280867)?;
+    pair(rt, 24, 1, 6, 0, 11, 590428335, 1, 1, 132258199)?;
+    pair(rt, 24, 0, 5, 0, 5, 156080602, 1, 5, 202942517)
 }
 
-fn near_36() {
-    pair(36, 0, 0, 0, 6, 1045983576, 0, 8, 1022162465);
-    pair(36, 0, 9, 1, 15, 1045983576, 1, 17, 1022162465);
-    pair(36, 1, 8, 1, 15, 1045983576, 1, 17, 1022162465);
-    pair(36, 0, 17, 1, 7, 1010453591, 1, 9, 1002763427);
-    pair(36, 0, 8, 0, 2, 1045983576, 0, 0, 1022162465);
-    pair(36, 0, 17, 1, 11, 1045983576, 1, 9, 1022162465);
-    pair(36, 1, 9, 0, 2, 1045983576, 0, 0, 1022162465);
-    pair(36, 0, 0, 0, 10, 1010453591, 0, 8, 1002763427);
-    pair(36, 0, 9, 0, 16, 725350027, 1, 16, 87504254);
-    pair(36, 1, 10, 0, 4, 366800261, 1, 0, 445446911);
-    pair(36, 1, 8, 0, 17, 85045131, 1, 6, 8997712);
-    pair(36, 0, 8, 0, 14, 132677912, 1, 0, 998178833);
-    pair(36, 0, 8, 0, 1, 87504254, 1, 1, 725350027);
-    pair(36, 1, 7, 0, 5, 445446911, 1, 1, 366800261);
-    pair(36, 1, 9, 0, 11, 8997712, 1, 0, 85045131);
-    pair(36, 0, 9, 0, 17, 998178833, 1, 3, 132677912);
+fn near_36(rt: &impl Print) -> io::Result<()> {
+    pair(rt, 36, 0, 0, 0, 6, 1045983576, 0, 8, 1022162465)?;
+    pair(rt, 36, 0, 9, 1, 15, 1045983576, 1, 17, 1022162465)?;
+    pair(rt, 36, 1, 8, 1, 15, 1045983576, 1, 17, 1022162465)?;
+    pair(rt, 36, 0, 17, 1, 7, 1010453591, 1, 9, 1002763427)?;
+    pair(rt, 36, 0, 8, 0, 2, 1045983576, 0, 0, 1022162465)?;
+    pair(rt, 36, 0, 17, 1, 11, 1045983576, 1, 9, 1022162465)?;
+    pair(rt, 36, 1, 9, 0, 2, 1045983576, 0, 0, 1022162465)?;
+    pair(rt, 36, 0, 0, 0, 10, 1010453591, 0, 8, 1002763427)?;
+    pair(rt, 36, 0, 9, 0, 16, 725350027, 1, 16, 87504254)?;
+    pair(rt, 36, 1, 10, 0, 4, 366800261, 1, 0, 445446911)?;
+    pair(rt, 36, 1, 8, 0, 17, 85045131, 1, 6, 8997712)?;
+    pair(rt, 36, 0, 8, 0, 14, 132677912, 1, 0, 998178833)?;
+    pair(rt, 36, 0, 8, 0, 1, 87504254, 1, 1, 725350027)?;
+    pair(rt, 36, 1, 7, 0, 5, 445446911, 1, 1, 366800261)?;
+    pair(rt, 36, 1, 9, 0, 11, 8997712, 1, 0, 85045131)?;
+    pair(rt, 36, 0, 9, 0, 17, 998178833, 1, 3, 132677912)
 }
 
-fn near_72() {
-    pair(72, 0, 17, 1, 33, 1055277507, 1, 34, 1051256117);
-    pair(72, 1, 18, 1, 33, 1055277507, 1, 34, 1051256117);
-    pair(72, 0, 0, 0, 14, 1059269249, 0, 16, 1049187339);
-    pair(72, 0, 15, 1, 6, 1059269249, 1, 7, 1049187339);
-    pair(72, 0, 18, 0, 2, 1055277507, 0, 1, 1051256117);
-    pair(72, 1, 17, 0, 2, 1055277507, 0, 1, 1051256117);
-    pair(72, 0, 20, 0, 29, 1059269249, 0, 28, 1049187339);
-    pair(72, 0, 35, 1, 21, 1059269249, 1, 19, 1049187339);
-    pair(72, 0, 18, 0, 23, 176025634, 1, 11, 181745169);
-    pair(72, 1, 18, 0, 5, 254179389, 1, 13, 389727911);
-    pair(72, 0, 17, 0, 31, 812394806, 1, 15, 264507089);
-    pair(72, 1, 17, 0, 29, 643867821, 1, 26, 224456714);
-    pair(72, 0, 17, 0, 24, 181745169, 1, 12, 176025634);
-    pair(72, 1, 17, 0, 22, 389727911, 1, 30, 254179389);
-    pair(72, 0, 18, 0, 20, 264507089, 1, 4, 812394806);
-    pair(72, 1, 18, 0, 9, 224456714, 1, 6, 643867821);
+fn near_72(rt: &impl Print) -> io::Result<()> {
+    pair(rt, 72, 0, 17, 1, 33, 1055277507, 1, 34, 1051256117)?;
+    pair(rt, 72, 1, 18, 1, 33, 1055277507, 1, 34, 1051256117)?;
+    pair(rt, 72, 0, 0, 0, 14, 1059269249, 0, 16, 1049187339)?;
+    pair(rt, 72, 0, 15, 1, 6, 1059269249, 1, 7, 1049187339)?;
+    pair(rt, 72, 0, 18, 0, 2, 1055277507, 0, 1, 1051256117)?;
+    pair(rt, 72, 1, 17, 0, 2, 1055277507, 0, 1, 1051256117)?;
+    pair(rt, 72, 0, 20, 0, 29, 1059269249, 0, 28, 1049187339)?;
+    pair(rt, 72, 0, 35, 1, 21, 1059269249, 1, 19, 1049187339)?;
+    pair(rt, 72, 0, 18, 0, 23, 176025634, 1, 11, 181745169)?;
+    pair(rt, 72, 1, 18, 0, 5, 254179389, 1, 13, 389727911)?;
+    pair(rt, 72, 0, 17, 0, 31, 812394806, 1, 15, 264507089)?;
+    pair(rt, 72, 1, 17, 0, 29, 643867821, 1, 26, 224456714)?;
+    pair(rt, 72, 0, 17, 0, 24, 181745169, 1, 12, 176025634)?;
+    pair(rt, 72, 1, 17, 0, 22, 389727911, 1, 30, 254179389)?;
+    pair(rt, 72, 0, 18, 0, 20, 264507089, 1, 4, 812394806)?;
+    pair(rt, 72, 1, 18, 0, 9, 224456714, 1, 6, 643867821)
 }
 
-fn near_108() {
-    pair(108, 0, 23, 1, 7, 1052542383, 1, 8, 1065143423);
-    pair(108, 1, 30, 1, 7, 1052542383, 1, 8, 1065143423);
-    pair(108, 0, 21, 1, 4, 1058965332, 1, 5, 1068956593);
-    pair(108, 0, 26, 0, 4, 1058965332, 0, 6, 1068956593);
-    pair(108, 0, 30, 0, 46, 1052542383, 0, 45, 1065143423);
-    pair(108, 1, 23, 0, 46, 1052542383, 0, 45, 1065143423);
-    pair(108, 0, 0, 0, 22, 1058965332, 0, 20, 1068956593);
-    pair(108, 0, 27, 1, 49, 1058965332, 1, 47, 1068956593);
-    pair(108, 0, 26, 0, 44, 778535233, 1, 22, 359231217);
-    pair(108, 1, 26, 0, 44, 536908288, 1, 33, 193212965);
-    pair(108, 0, 27, 0, 52, 183747167, 1, 0, 535284634);
-    pair(108, 1, 27, 0, 26, 400406159, 1, 44, 273565842);
-    pair(108, 0, 27, 0, 31, 359231217, 1, 9, 778535233);
-    pair(108, 1, 27, 0, 20, 193212965, 1, 9, 536908288);
-    pair(108, 0, 26, 0, 53, 535284634, 1, 1, 183747167);
-    pair(108, 1, 26, 0, 9, 273565842, 1, 27, 400406159);
+fn near_108(rt: &impl Print) -> io::Result<()> {
+    pair(rt, 108, 0, 23, 1, 7, 1052542383, 1, 8, 1065143423)?;
+    pair(rt, 108, 1, 30, 1, 7, 1052542383, 1, 8, 1065143423)?;
+    pair(rt, 108, 0, 21, 1, 4, 1058965332, 1, 5, 1068956593)?;
+    pair(rt, 108, 0, 26, 0, 4, 1058965332, 0, 6, 1068956593)?;
+    pair(rt, 108, 0, 30, 0, 46, 1052542383, 0, 45, 1065143423)?;
+    pair(rt, 108, 1, 23, 0, 46, 1052542383, 0, 45, 1065143423)?;
+    pair(rt, 108, 0, 0, 0, 22, 1058965332, 0, 20, 1068956593)?;
+    pair(rt, 108, 0, 27, 1, 49, 1058965332, 1, 47, 1068956593)?;
+    pair(rt, 108, 0, 26, 0, 44, 778535233, 1, 22, 359231217)?;
+    pair(rt, 108, 1, 26, 0, 44, 536908288, 1, 33, 193212965)?;
+    pair(rt, 108, 0, 27, 0, 52, 183747167, 1, 0, 535284634)?;
+    pair(rt, 108, 1, 27, 0, 26, 400406159, 1, 44, 273565842)?;
+    pair(rt, 108, 0, 27, 0, 31, 359231217, 1, 9, 778535233)?;
+    pair(rt, 108, 1, 27, 0, 20, 193212965, 1, 9, 536908288)?;
+    pair(rt, 108, 0, 26, 0, 53, 535284634, 1, 1, 183747167)?;
+    pair(rt, 108, 1, 26, 0, 9, 273565842, 1, 27, 400406159)
 }
 
-fn near_216() {
-    pair(216, 0, 53, 1, 101, 1072974186, 1, 103, 1070474843);
-    pair(216, 0, 59, 1, 48, 1072974186, 1, 49, 1070474843);
-    pair(216, 0, 107, 1, 47, 1072974186, 1, 49, 1070474843);
-    pair(216, 1, 48, 1, 48, 1072974186, 1, 49, 1070474843);
-    pair(216, 0, 0, 0, 60, 1072974186, 0, 58, 1070474843);
-    pair(216, 0, 48, 0, 59, 1072974186, 0, 58, 1070474843);
-    pair(216, 0, 54, 0, 6, 1072974186, 0, 4, 1070474843);
-    pair(216, 1, 53, 0, 6, 1072974186, 0, 4, 1070474843);
-    pair(216, 1, 53, 0, 29, 422273953, 1, 91, 412964072);
-    pair(216, 0, 53, 0, 74, 539228965, 1, 22, 796911392);
-    pair(216, 0, 54, 0, 11, 481983115, 1, 88, 487885349);
-    pair(216, 1, 54, 0, 56, 499746262, 1, 93, 333141849);
-    pair(216, 1, 54, 0, 16, 412964072, 1, 78, 422273953);
-    pair(216, 0, 54, 0, 85, 796911392, 1, 33, 539228965);
-    pair(216, 0, 53, 0, 19, 487885349, 1, 96, 481983115);
-    pair(216, 1, 53, 0, 14, 333141849, 1, 51, 499746262);
+fn near_216(rt: &impl Print) -> io::Result<()> {
+    pair(rt, 216, 0, 53, 1, 101, 1072974186, 1, 103, 1070474843)?;
+    pair(rt, 216, 0, 59, 1, 48, 1072974186, 1, 49, 1070474843)?;
+    pair(rt, 216, 0, 107, 1, 47, 1072974186, 1, 49, 1070474843)?;
+    pair(rt, 216, 1, 48, 1, 48, 1072974186, 1, 49, 1070474843)?;
+    pair(rt, 216, 0, 0, 0, 60, 1072974186, 0, 58, 1070474843)?;
+    pair(rt, 216, 0, 48, 0, 59, 1072974186, 0, 58, 1070474843)?;
+    pair(rt, 216, 0, 54, 0, 6, 1072974186, 0, 4, 1070474843)?;
+    pair(rt, 216, 1, 53, 0, 6, 1072974186, 0, 4, 1070474843)?;
+    pair(rt, 216, 1, 53, 0, 29, 422273953, 1, 91, 412964072)?;
+    pair(rt, 216, 0, 53, 0, 74, 539228965, 1, 22, 796911392)?;
+    pair(rt, 216, 0, 54, 0, 11, 481983115, 1, 88, 487885349)?;
+    pair(rt, 216, 1, 54, 0, 56, 499746262, 1, 93, 333141849)?;
+    pair(rt, 216, 1, 54, 0, 16, 412964072, 1, 78, 422273953)?;
+    pair(rt, 216, 0, 54, 0, 85, 796911392, 1, 33, 539228965)?;
+    pair(rt, 216, 0, 53, 0, 19, 487885349, 1, 96, 481983115)?;
+    pair(rt, 216, 1, 53, 0, 14, 333141849, 1, 51, 499746262)
 }
 
-fn near() {
-    near_12();
-    near_24();
-    near_36();
-    near_72();
-    near_108();
-    near_216();
+fn near(rt: &impl Print) -> io::Result<()> {
+    near_12(rt)?;
+    near_24(rt)?;
+    near_36(rt)?;
+    near_72(rt)?;
+    near_108(rt)?;
+    near_216(rt)
 }
 
-fn main() {
-    offered(12);
-    offered(24);
-    offered(36);
-    offered(72);
-    offered(108);
-    offered(216);
-    untabled(0, 6);
-    untabled(11, 5);
-    untabled(13, 6);
-    untabled(48, 24);
-    untabled(144, 72);
-    untabled(217, 108);
-    untabled(432, 108);
-    untabled(18446744073709551615, 36);
-    near();
-    recordings::recordings();
+#[tactic(auto, unfolding(cosine::specs::Kernels::tabled, cosine::specs::Kernels::lengths, arithmetic::specs::Lists::every))]
+fn main(rt: HostRuntime) -> io::Result<()> {
+    offered(&rt, 12)?;
+    offered(&rt, 24)?;
+    offered(&rt, 36)?;
+    offered(&rt, 72)?;
+    offered(&rt, 108)?;
+    offered(&rt, 216)?;
+    untabled(&rt, 0, 6)?;
+    untabled(&rt, 11, 5)?;
+    untabled(&rt, 13, 6)?;
+    untabled(&rt, 48, 24)?;
+    untabled(&rt, 144, 72)?;
+    untabled(&rt, 217, 108)?;
+    untabled(&rt, 432, 108)?;
+    untabled(&rt, 18446744073709551615, 36)?;
+    near(&rt)?;
+    recordings::recordings(&rt)
 }

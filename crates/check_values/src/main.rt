@@ -1,7 +1,11 @@
 // The table, the window, the kernels and the roundings at chosen places, compared with what vectors/values.py makes from the definitions.
+#![tactic(auto)]
+
 ghost use Rattle.std.specs.Prelude.{◌≤◌, ◌<◌, ◌/◌, T};
 ghost use Rattle.arithmetic.specs.QuotientLaws.{splits};
 ghost use Rattle.cosine.specs.Kernels.{tabled};
+
+use std::io;
 
 // Sums around zero, halves of either sign of every divisor, one beside them, and the ends of a sum.
 const COUNT: usize = 89;
@@ -98,201 +102,212 @@ const SUMS: [i64; COUNT] = [
     -7782220156096217088,
 ];
 
-fn line(word: &[u8], of: usize, a: i64, value: i64) {
-    report::word(word);
-    report::count(of);
-    report::field(a);
-    report::field(value);
-    report::end();
+fn line(rt: &impl Print, word: &[u8], of: usize, a: i64, value: i64) -> io::Result<()> {
+    report::word(rt, word)?;
+    report::count(rt, of)?;
+    report::field(rt, a)?;
+    report::field(rt, value)?;
+    report::end(rt)
 }
 
 // A sum that rnd_shift takes: one of at most 2^62.
-fn shift(k: u32, a: i64)
+fn shift(rt: &impl Print, k: u32, a: i64) -> io::Result<()>
     requires { (2 ≤ k) × (k < 63) }
 {
     if arithmetic::size(a) <= 4611686018427387904 {
-        line(b"shift", k as usize, a, arithmetic::rnd_shift(a, k));
+        line(rt, b"shift", k as usize, a, arithmetic::rnd_shift(a, k))?;
     }
+    Ok(())
 }
 
-fn shifts(k: u32)
+fn shifts(rt: &impl Print, k: u32) -> io::Result<()>
     requires { (2 ≤ k) × (k < 63) }
 {
     for i in 0..COUNT {
         let a = SUMS[i];
-        shift(k, a);
+        shift(rt, k, a)?;
     }
+    Ok(())
 }
 
 // A quotient by n × 2^30, clamped, of a sum within n × 2^55.
-fn scale(n: usize, a: i64)
+fn scale(rt: &impl Print, n: usize, a: i64) -> io::Result<()>
     requires { T (splits n) }
 {
     if arithmetic::size(a) <= n as u64 * 36028797018963968 {
-        line(b"scale", n, a, arithmetic::sample(a, n) as i64);
+        line(rt, b"scale", n, a, arithmetic::sample(a, n) as i64)?;
     }
+    Ok(())
 }
 
-fn scales(n: usize)
+fn scales(rt: &impl Print, n: usize) -> io::Result<()>
     requires { T (splits n) }
 {
     for i in 0..COUNT {
         let a = SUMS[i];
-        scale(n, a);
+        scale(rt, n, a)?;
     }
+    Ok(())
 }
 
 // The clamp by itself: a × 12 × 2^30, within 12 × 2^55, by 12 × 2^30.
-fn clamp(i: usize, a: i64) {
+fn clamp(rt: &impl Print, i: usize, a: i64) -> io::Result<()> {
     if arithmetic::size(a) <= 33554432 {
         line(
+            rt,
             b"clamp",
             i,
             a,
             arithmetic::sample(a * 12884901888, 12) as i64,
-        );
+        )?;
     }
+    Ok(())
 }
 
-fn clamps() {
+fn clamps(rt: &impl Print) -> io::Result<()> {
     for i in 0..COUNT {
         let a = SUMS[i];
-        clamp(i, a);
+        clamp(rt, i, a)?;
     }
+    Ok(())
 }
 
-fn cosines() {
+fn cosines(rt: &impl Print) -> io::Result<()> {
     let cos = cosine::quarter_turn();
     for t in 0..1800 {
-        report::word(b"C");
-        report::count(t);
-        report::field(cosine::cosine(&cos, t));
-        report::end();
+        report::word(rt, b"C")?;
+        report::count(rt, t)?;
+        report::field(rt, cosine::cosine(&cos, t))?;
+        report::end(rt)?;
     }
+    Ok(())
 }
 
-fn windows(n: usize)
+fn windows(rt: &impl Print, n: usize) -> io::Result<()>
     requires { T (tabled n) }
 {
     let cos = cosine::quarter_turn();
-    report::word(b"W");
+    report::word(rt, b"W")?;
     for i in 0..n {
-        report::field(cosine::window(&cos, n, i));
+        report::field(rt, cosine::window(&cos, n, i))?;
     }
-    report::end();
+    report::end(rt)
 }
 
-fn rise(n: usize, shape: u32)
+fn rise(rt: &impl Print, n: usize, shape: u32) -> io::Result<()>
     requires { T (tabled n) }
 {
     let cos = cosine::quarter_turn();
-    report::word(b"rise");
-    report::count(shape as usize);
+    report::word(rt, b"rise")?;
+    report::count(rt, shape as usize)?;
     for i in 0..n / 2 {
-        report::field(cosine::rising(&cos, shape, n, i));
+        report::field(rt, cosine::rising(&cos, shape, n, i))?;
     }
-    report::end();
+    report::end(rt)
 }
 
-fn fall(n: usize, shape: u32)
+fn fall(rt: &impl Print, n: usize, shape: u32) -> io::Result<()>
     requires { T (tabled n) }
 {
     let cos = cosine::quarter_turn();
-    report::word(b"fall");
-    report::count(shape as usize);
+    report::word(rt, b"fall")?;
+    report::count(rt, shape as usize)?;
     for i in 0..n / 2 {
-        report::field(cosine::falling(&cos, shape, n, i));
+        report::field(rt, cosine::falling(&cos, shape, n, i))?;
     }
-    report::end();
+    report::end(rt)
 }
 
 // The two halves of a joint of either shape.
-fn halves(n: usize)
+fn halves(rt: &impl Print, n: usize) -> io::Result<()>
     requires { T (tabled n) }
 {
-    rise(n, 0);
-    fall(n, 0);
-    rise(n, 1);
-    fall(n, 1);
+    rise(rt, n, 0)?;
+    fall(rt, n, 0)?;
+    rise(rt, n, 1)?;
+    fall(rt, n, 1)
 }
 
-fn kernel_row(n: usize, i: usize)
+fn kernel_row(rt: &impl Print, n: usize, i: usize) -> io::Result<()>
     requires { T (tabled n) × (i < n) }
 {
     let cos = cosine::quarter_turn();
-    report::word(b"K");
+    report::word(rt, b"K")?;
     for k in 0..n / 2 {
-        report::field(cosine::kernel(&cos, n, i, k));
+        report::field(rt, cosine::kernel(&cos, n, i, k))?;
     }
-    report::end();
+    report::end(rt)
 }
 
-fn kernels(n: usize)
+fn kernels(rt: &impl Print, n: usize) -> io::Result<()>
     requires { T (tabled n) }
 {
     for i in 0..n {
-        kernel_row(n, i);
+        kernel_row(rt, n, i)?;
     }
+    Ok(())
 }
 
-fn short_row(n: usize, i: usize)
+fn short_row(rt: &impl Print, n: usize, i: usize) -> io::Result<()>
     requires { T (tabled n) × (i < n / 3) }
 {
     let cos = cosine::quarter_turn();
-    report::word(b"L");
+    report::word(rt, b"L")?;
     for k in 0..n / 6 {
-        report::field(cosine::short_kernel(&cos, n, i, k));
+        report::field(rt, cosine::short_kernel(&cos, n, i, k))?;
     }
-    report::end();
+    report::end(rt)
 }
 
-fn short_kernels(n: usize)
+fn short_kernels(rt: &impl Print, n: usize) -> io::Result<()>
     requires { T (tabled n) }
 {
     for i in 0..n / 3 {
-        short_row(n, i);
+        short_row(rt, n, i)?;
     }
+    Ok(())
 }
 
-fn length(n: usize)
+fn length(rt: &impl Print, n: usize) -> io::Result<()>
     requires { T (tabled n) × T (splits n) }
 {
-    scales(n);
-    windows(n);
-    halves(n);
-    kernels(n);
+    scales(rt, n)?;
+    windows(rt, n)?;
+    halves(rt, n)?;
+    kernels(rt, n)
 }
 
 // A length at which the short route is offered.
-fn short_length(n: usize)
+fn short_length(rt: &impl Print, n: usize) -> io::Result<()>
     requires { T (tabled n) × T (splits n) }
 {
-    length(n);
-    short_kernels(n);
+    length(rt, n)?;
+    short_kernels(rt, n)
 }
 
 // Which numbers up to 300 are block lengths.
-fn lengths() {
+fn lengths(rt: &impl Print) -> io::Result<()> {
     for n in 0..300 {
         if cosine::is_tabled(n) {
-            report::count(n);
+            report::count(rt, n)?;
         }
     }
-    report::end();
+    report::end(rt)
 }
 
-fn main() {
-    lengths();
-    shifts(18);
-    shifts(26);
-    shifts(28);
-    shifts(29);
-    clamps();
-    cosines();
-    short_length(12);
-    short_length(24);
-    short_length(36);
-    short_length(72);
-    length(108);
-    length(216);
+#[tactic(auto, unfolding(cosine::specs::Kernels::tabled, cosine::specs::Kernels::lengths, arithmetic::specs::Lists::every, arithmetic::specs::QuotientLaws::splits, arithmetic::specs::QuotientLaws::quarters))]
+fn main(rt: HostRuntime) -> io::Result<()> {
+    lengths(&rt)?;
+    shifts(&rt, 18)?;
+    shifts(&rt, 26)?;
+    shifts(&rt, 28)?;
+    shifts(&rt, 29)?;
+    clamps(&rt)?;
+    cosines(&rt)?;
+    short_length(&rt, 12)?;
+    short_length(&rt, 24)?;
+    short_length(&rt, 36)?;
+    short_length(&rt, 72)?;
+    length(&rt, 108)?;
+    length(&rt, 216)
 }

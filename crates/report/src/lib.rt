@@ -1,36 +1,33 @@
 // What the test programs share: what they print, and in `noise` the numbers that they make up. Fields are parted by commas, lines ended by
 // a line feed. What is written is compared with stored output and not proved: no contract can speak of it.
+#![tactic(auto)]
+
 pub mod noise;
 
 ghost use Rattle.std.specs.Prelude.{◌<◌, ◌^◌};
 
-use libc::STDOUT_FILENO;
+use std::io;
 
 // A number with its sign.
-pub fn number(v: i64) {
-    if v < 0 {
-        io::write_all(STDOUT_FILENO, b"-");
-    }
-    io::print_decimal(STDOUT_FILENO, arithmetic::size(v));
+pub fn number(rt: &impl Print, v: i64) -> io::Result<()> {
+    print!(rt; "{v}")
 }
 
-pub fn count(v: usize) {
-    io::write_all(STDOUT_FILENO, b",");
-    io::print_decimal(STDOUT_FILENO, v as u64);
+pub fn count(rt: &impl Print, v: usize) -> io::Result<()> {
+    print!(rt; ",{v}")
 }
 
-pub fn field(v: i64) {
-    io::write_all(STDOUT_FILENO, b",");
-    number(v);
+pub fn field(rt: &impl Print, v: i64) -> io::Result<()> {
+    print!(rt; ",{v}")
 }
 
 // The word that a line begins with.
-pub fn word(text: &[u8]) {
-    io::write_all(STDOUT_FILENO, text);
+pub fn word(rt: &impl Print, text: &[u8]) -> io::Result<()> {
+    rt.write_all(text)
 }
 
-pub fn end() {
-    io::write_all(STDOUT_FILENO, b"\n");
+pub fn end(rt: &impl Print) -> io::Result<()> {
+    rt.write_all(b"\n")
 }
 
 // A running sum with one more entry: a change of any one entry of up to 32 bits changes it.
@@ -78,35 +75,37 @@ pub fn sum_bytes(s: &[u8]) -> u64 {
     h
 }
 
-fn list_coefficients(c: &[i32]) {
+fn list_coefficients(rt: &impl Print, c: &[i32]) -> io::Result<()> {
     for k in 0..c.len() {
-        field(c[k] as i64);
+        field(rt, c[k] as i64)?;
     }
+    Ok(())
 }
 
-fn list_samples(x: &[i16]) {
+fn list_samples(rt: &impl Print, x: &[i16]) -> io::Result<()> {
     for i in 0..x.len() {
-        field(x[i] as i64);
+        field(rt, x[i] as i64)?;
     }
+    Ok(())
 }
 
 // The entries of a buffer, or the length and the sum of one that has more than `most`, and the line's end.
-pub fn coefficients(c: &[i32], most: usize) {
+pub fn coefficients(rt: &impl Print, c: &[i32], most: usize) -> io::Result<()> {
     if c.len() <= most {
-        list_coefficients(c);
+        list_coefficients(rt, c)?;
     } else {
-        count(c.len());
-        count(sum_coefficients(c) as usize);
+        count(rt, c.len())?;
+        count(rt, sum_coefficients(c) as usize)?;
     }
-    end();
+    end(rt)
 }
 
-pub fn samples(x: &[i16], most: usize) {
+pub fn samples(rt: &impl Print, x: &[i16], most: usize) -> io::Result<()> {
     if x.len() <= most {
-        list_samples(x);
+        list_samples(rt, x)?;
     } else {
-        count(x.len());
-        count(sum_samples(x) as usize);
+        count(rt, x.len())?;
+        count(rt, sum_samples(x) as usize)?;
     }
-    end();
+    end(rt)
 }
