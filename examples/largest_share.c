@@ -2,8 +2,8 @@
  * coefficient with the largest share are named, and played with that coefficient as it was the sample is compared again. A sample of the silence
  * before the sound is moved by no coefficient at all.
  *
- *   rt staticlib c_face
- *   gcc -O2 -Wall -Wextra -Iinclude examples/largest_share.c target/staticlib/libc_face.a -o target/largest_share
+ *   (cd crates/c_face && rt lib)
+ *   gcc -O2 -Wall -Wextra -Iinclude examples/largest_share.c crates/c_face/out/libc_face.a -o target/largest_share
  *   target/largest_share
  */
 #include "dapplescree.h"

@@ -1,8 +1,8 @@
 /* Short joints: a click in silence goes through a stream whose joints are all long, and through one that passes to short joints about the click
  * and back to long ones. Unchanged, every sample returns. Stored coarsely, the click is heard before its time, with short joints by fewer places.
  *
- *   rt staticlib c_face
- *   gcc -O2 -Wall -Wextra -Iinclude examples/short_joints.c target/staticlib/libc_face.a -o target/short_joints
+ *   (cd crates/c_face && rt lib)
+ *   gcc -O2 -Wall -Wextra -Iinclude examples/short_joints.c crates/c_face/out/libc_face.a -o target/short_joints
  *   target/short_joints
  */
 #include "dapplescree.h"

@@ -1,8 +1,8 @@
 /* Writes the coefficients of a recording as floats for a plotting desk. N is the argument; standard input brings 16-bit samples, raw and
  * little-endian, as sound tools write them. Zeros fill the last hop.
  *
- *   rt staticlib c_face
- *   gcc -O2 -Wall -Wextra -Iinclude examples/spectrogram.c target/staticlib/libc_face.a -o target/spectrogram
+ *   (cd crates/c_face && rt lib)
+ *   gcc -O2 -Wall -Wextra -Iinclude examples/spectrogram.c crates/c_face/out/libc_face.a -o target/spectrogram
  *   sox whale.wav -t raw -e signed -b 16 -c 1 - | target/spectrogram 216 > whale.csv 2> whale.summary
  *
  * Standard output gets CSV: a line block,k,value for each coefficient, block by block. Standard error gets the summary, two lines of CSV:

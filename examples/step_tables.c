@@ -1,8 +1,8 @@
 /* Step tables: a customer's table, the distance that is told for it by each route, and a recording that is stored as levels and played from them.
  * Every returned sample is held to the told distance. Then three tables that are turned away.
  *
- *   rt staticlib c_face
- *   gcc -O2 -Wall -Wextra -Iinclude examples/step_tables.c target/staticlib/libc_face.a -o target/step_tables
+ *   (cd crates/c_face && rt lib)
+ *   gcc -O2 -Wall -Wextra -Iinclude examples/step_tables.c crates/c_face/out/libc_face.a -o target/step_tables
  *   target/step_tables
  */
 #include "dapplescree.h"

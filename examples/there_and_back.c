@@ -1,8 +1,8 @@
 /* There and back: a recording of four hops, every joint of it long, is analysed and synthesised again, block by block and whole, and what
  * returns is held to it.
  *
- *   rt staticlib c_face
- *   gcc -O2 -Wall -Wextra -Iinclude examples/there_and_back.c target/staticlib/libc_face.a -o target/there_and_back
+ *   (cd crates/c_face && rt lib)
+ *   gcc -O2 -Wall -Wextra -Iinclude examples/there_and_back.c crates/c_face/out/libc_face.a -o target/there_and_back
  *   target/there_and_back
  */
 #include "dapplescree.h"

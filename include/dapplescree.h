@@ -1,6 +1,6 @@
 /* Dapplescree: the filter bank of the seabed recorder, a windowed MDCT in whole numbers.
  *
- * Link target/staticlib/libc_face.a (`rt staticlib c_face`). N is the block length: 12, 24, 36, 72, 108 or 216, the tabled lengths. M = N/2 is
+ * Link crates/c_face/out/libc_face.a (`(cd crates/c_face && rt lib)`). N is the block length: 12, 24, 36, 72, 108 or 216, the tabled lengths. M = N/2 is
  * a hop. Direct analysis and synthesis are offered at every tabled length, the short route at 12, 24, 36 and 72, the double route, which splits
  * by three and again (document 02, P12), at 36 and 72. A sample is an int16_t. A coefficient is an int32_t counted in units of 1/64. A float is a
  * double, the 64-bit one of IEEE 754. y, S, X, U, V, rnd, C and K below are those of document 01, with the turn cut in 864 parts and an exact half
