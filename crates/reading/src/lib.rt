@@ -1,20 +1,26 @@
 // Standard input, read whole into a buffer of fixed size.
 #![tactic(auto)]
 
+ghost use Rattle.std.specs.Prelude.{ℕ, ◌≤◌, ◌<◌, IfOk, OnErr, length, take};
 ghost use Rattle.std.specs.Io.{ReadsAtMost};
+ghost use Rattle.std.specs.Io.KnownBytes.{Consumes, IsAtEnd};
 
 use std::io;
 use std::io::Read;
 
-// Reads until the buffer is full or the input ends, and answers how many bytes came. Each turn reads one at least.
-pub fn fill(input: &mut impl Read, buffer: &mut [u8]) -> io::Result<usize>
-    ensures { ReadsAtMost result buffer.new }
+// Reads until the buffer is full or the input ends, and answers how many bytes came. The first of the buffer are those that the input gave; where fewer came than fit,
+// it has none left. The error of a read that fails is handed on: what came before it stands in the buffer.
+pub fn fill<R: Read>(input: &mut R, buffer: &mut [u8]) -> io::Result<usize>
+    ensures bound { ReadsAtMost result buffer.new }
+    ensures bytes { IfOk result (λ n. Consumes (R.remaining input.old) (R.remaining input.new) (take n buffer.new)) }
+    ensures end { IfOk result (λ n. n < length buffer.new → IsAtEnd (R.remaining input.new)) }
+    ensures failed { OnErr result ((n : ℕ) × (n ≤ length buffer.new) × Consumes (R.remaining input.old) (R.remaining input.new) (take n buffer.new)) }
 {
     let mut n = 0;
-    for _ in 0..buffer.len() {
+    while n < buffer.len() {
         let more = input.read(&mut buffer[n..])?;
         if more == 0 {
-            break;
+            return Ok(n);
         }
         n += more;
     }
@@ -59,6 +65,7 @@ mod tests {
         let mut room = [0u8; 5];
         let mut input = Drip { left: 3 };
         assert!(rt; fill(&mut input, &mut room).is_err());
+        assert_eq!(rt; room, [7, 7, 7, 0, 0]);
     }
 
     #[test]
