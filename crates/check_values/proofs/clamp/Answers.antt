@@ -2,6 +2,6 @@ use Rattle.arithmetic.specs.QuotientLaws.{splits, quarters}
 use Rattle.check_values.proofs.clamp.Goals as goal
 
 -- 12 is four times 3.
-pub sample-requires-clause-t : goal.sample-requires-clause-t
+pub sample-requires-clause-splits : goal.sample-requires-clause-splits
 unfolding splits quarters
-sample-requires-clause-t g c = tt
+sample-requires-clause-splits g c = tt
