@@ -124,7 +124,7 @@ splits-is l g u v w z ka kb kc t =
       c_near = leb→le (nat_abs (fc -ℤ pos (2 ^ 27) *ℤ kc)) (3 * 2 ^ 26) (both_right (near fb kb) (near fc kc) rest);
     }
 
--- the kernels and the cosines by a rule c: with C for it they are those of `Kernels`, with tableC they are read from the table
+-- the kernels and the cosines by a rule c: with C for it they are those of `Kernels`, with table_c they are read from the table
 module _ (c : ℤ → ℤ) (N : ℕ) where
   abbrev kernel : ℕ → ℕ → ℤ
   kernel n k = c (pos (d N * (2 * n + 1 + N / 2) * (2 * k + 1)))

@@ -153,7 +153,7 @@ pub record ReorderAnswers (to : Order) (N H : ℕ) (x out : List ℤ) : Type 0 w
   pub taken : Tabled N → Counted H → length x ≡ (H + 1) * (N / 2) → length out ≡ (H + 1) * (N / 2) → InRange x → reorder_code N H x out ≡ 0
   pub kept : reorder_code N H x out ≢ 0 → reorder_out to N H x out ≡ out
 
--- for C an order is a number: the calls over recordings are handed `order_of order` and `hopsIn order H`. With any number but 0 and 1 they are handed no hops, which each answers with 2 (`two_hops`)
+-- for C an order is a number: the calls over recordings are handed `order_of order` and `hops_in order H`. With any number but 0 and 1 they are handed no hops, which each answers with 2 (`two_hops`)
 pub record NumberAnswers (order H : ℕ) : Type 0 where
   pub by_block : order ≡ 0 → (order_of order ≡ ByBlock) × (hops_in order H ≡ H)
   pub by_frequency : order ≡ 1 → (order_of order ≡ ByFrequency) × (hops_in order H ≡ H)

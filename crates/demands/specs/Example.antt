@@ -96,7 +96,7 @@ sparse_0 = changed analysed_0 (pos 0 ∷ pos 0 ∷ minus 1000 ∷ pos 0 ∷ pos 
 unfoldable pub slight_0 : List ℤ
 slight_0 = changed analysed_0 (pos 0 ∷ pos 0 ∷ pos 0 ∷ pos 47 ∷ pos 0 ∷ pos 0 ∷ [])
 
--- the changes of a block in all, knock-1 being the second one, and the largest of them
+-- the changes of a block in all, knock_1 being the second one, and the largest of them
 unfoldable pub totals : ℕ → ℕ
 totals zero = 1000
 totals (suc b) = 26

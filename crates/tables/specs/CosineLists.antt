@@ -11,11 +11,11 @@ use Rattle.cosine.specs.Cosine.{quarter, third, sixth, twelfth, C}
 use Rattle.cosine.specs.Kernels.{s, e_b, f_b, e_c, f_c}
 use Rattle.cosine.specs.CosineLaws.{table_c, C-table}
 
--- one of the four, eB, fB, eC or fC, as a list, cosines
+-- one of the four, e_b, f_b, e_c or f_c, as a list, cosines
 unfoldable pub cosines : (ℕ → ℕ → ℤ) → ℕ → List ℤ
 cosines c N = table (N / 3) (λ n. c N n +ℤ pos (2 ^ 27))
 
--- rB takes f times fB off: fB is lent with its sign changed, so that rB and rC both add
+-- rB takes f times f_b off: f_b is lent with its sign changed, so that rB and rC both add
 unfoldable pub negated : (ℕ → ℕ → ℤ) → ℕ → ℕ → ℤ
 negated c N n = neg_ℤ (c N n)
 

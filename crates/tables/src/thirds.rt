@@ -1,5 +1,5 @@
 // The lifted kernel of the thirds of 12 and 24 (those of 36 and more are lengths themselves), with BASE_8 for the sums of a block of 24, and the cosines beside e and f in rB(n)
-// and rC(n), n from 0 to N/3 - 1, each with 2^27 added, so that none is negative; fB with its sign changed first.
+// and rC(n), n from 0 to N/3 - 1, each with 2^27 added, so that none is negative; f_b with its sign changed first.
 ghost use Rattle.std.specs.Prelude.{◌≡◌};
 ghost use Rattle.cosine.specs.Kernels.{e_b, f_b, e_c, f_c};
 ghost use Rattle.tables.specs.LiftLists.{lift_list, base_list};

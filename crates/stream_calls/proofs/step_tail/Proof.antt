@@ -50,7 +50,7 @@ said : (c : tie.After-is_sound-sound) → c.is_sound-sound.result ≡ sound (hel
 unfolding sound sound_tail
 said c = c.is_sound-sound.ensures
 
--- Else1, by its entry
+-- the start, of Else-not-sound
 abbrev start : tie.Else-not-sound → tie.Start
 start c = c.before.before.before
 
