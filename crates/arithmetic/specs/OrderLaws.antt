@@ -100,7 +100,7 @@ pub sfits_mul : {w v u : Width} {a b : ℤ} → T (ltb (2 ^ hbits w * 2 ^ hbits 
 sfits_mul {w} {v} {u} {a} {b} t f g =
     sfits_abs (a *ℤ b) (lt_of_le_of_lt (abs_mul_le a b (abs_sfits f) (abs_sfits g)) (ltb→lt (2 ^ hbits w * 2 ^ hbits v) (2 ^ hbits u) t))
 
--- for `search`, at the needs of code on signed integers: `let h = .. in search signs`, with the ranges of its sums as h
+-- for `search`, at the goals of code on signed integers: `let h = .. in search signs`, with the ranges of its sums as h
 pub ruleset signs = (rules, sfits_widen, sfits_mul, sfits_shr)
 
 -- ---- chains

@@ -1,4 +1,4 @@
--- Laws of the ring of integers that `lib.IntN` lacks, and what proves the identities that follow from them:
+-- Laws of the ring of integers that `Rattle.std.proofs.Math.IntN` lacks, and what proves the identities that follow from them:
 --     simp ring (simp lins (omega zarith))     an order or an equation of polynomials of any degree: `ring` multiplies out and sorts,
 --                                              and `lins` takes the product of two unknowns for an unknown
 -- `simp ints (omega zarith)` does as much in one step where the unknowns' products come to at most 64 of naturals: four for each
