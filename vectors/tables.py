@@ -22,8 +22,8 @@ def const(name, values):
 
 
 def function(name, parameters, length, definition, body, condition=None):
-    requires = f"    requires {{ ⌜ {condition} ⌝ }}\n" if condition else ""
-    functions.append(f"pub fn {name}({parameters}) -> [i32; {length}]\n{requires}    ensures {{ λ r. ⌜ r ≡ {definition} ⌝ }}\n{{\n    {body}\n}}\n")
+    requires = f"    requires {{ {condition} }}\n" if condition else ""
+    functions.append(f"pub fn {name}({parameters}) -> [i32; {length}]\n{requires}    ensures {{ result ≡ {definition} }}\n{{\n    {body}\n}}\n")
 
 
 def table(name, values, definition):
@@ -33,21 +33,21 @@ def table(name, values, definition):
 
 def rows(N):
     M = N // 2
-    table(f"rows_{N}", [F(N, k, j) + KERNEL for j in range(M) for k in range(M)], f"liftList {N}")
+    table(f"rows_{N}", [F(N, k, j) + KERNEL for j in range(M) for k in range(M)], f"lift_list {N}")
 
 
 def base(N):
     M = N // 2
-    table(f"base_{N}", [sum(F(N, k, j) for j in range(M)) for k in range(M)], f"baseList {N}")
+    table(f"base_{N}", [sum(F(N, k, j) for j in range(M)) for k in range(M)], f"base_list {N}")
 
 
 def half(name, N, of):
     const(f"{name}_{N}", of(LONG, N))
     const(f"short_{name}_{N}", of(SHORT, N))
     long = f"{name.upper()}_{N}"
-    function(f"{name}_{N}", "shape: u32", N // 2, f"{name}List shape {N}", f"if shape == 0 {{\n        return {long};\n    }}\n    SHORT_{long}")
+    function(f"{name}_{N}", "shape: u32", N // 2, f"{name}_list shape {N}", f"if shape == 0 {{\n        return {long};\n    }}\n    SHORT_{long}")
     if N in SHORT_LENGTHS:
-        function(f"long_{name}_{N}", "shape: u32", N // 2, f"{name}List shape {N}", long, "shape ≡ 0")
+        function(f"long_{name}_{N}", "shape: u32", N // 2, f"{name}_list shape {N}", long, "shape ≡ 0")
 
 
 def lib():
@@ -61,11 +61,13 @@ def lib():
 // up to N = 72 those of a long one also by a call of their own, for which the compiler knows the numbers.
 // Entry j × M + k of ROWS_N is F(k,j) + 2^26, which is never negative, and entry k of BASE_N the sum over j of F(k,j).
 // From 24 on a length's sums are made of its third's kernel and of the tables of `sides`.
+#![tactic(auto)]
+
 pub mod thirds;
 
-ghost use mathlib.Core.Path.{_≡_};
-ghost use Rattle·tables·specs.specs.HalfLaws.{riseList, fallList};
-ghost use Rattle·tables·specs.specs.LiftLists.{liftList, baseList};
+ghost use Rattle.std.specs.Prelude.{◌≡◌};
+ghost use Rattle.tables.specs.HalfLaws.{rise_list, fall_list};
+ghost use Rattle.tables.specs.LiftLists.{lift_list, base_list};
 """
 
 
@@ -76,18 +78,18 @@ def thirds():
     for N in SHORT_LENGTHS:
         angles = [s(N, n) for n in range(N // 3)]
         for name, of, definition in (
-            ("eb", lambda t: C(216 - t), "eB"),
-            ("fb", lambda t: -(C(t - 72) + C(t + 72)), "(negated fB)"),
-            ("ec", lambda t: C(t), "eC"),
-            ("fc", lambda t: C(144 - t) + C(288 - t), "fC"),
+            ("eb", lambda t: C(216 - t), "e_b"),
+            ("fb", lambda t: -(C(t - 72) + C(t + 72)), "(negated f_b)"),
+            ("ec", lambda t: C(t), "e_c"),
+            ("fc", lambda t: C(144 - t) + C(288 - t), "f_c"),
         ):
             table(f"{name}_{N}", [of(t) + ROTATION for t in angles], f"cosines {definition} {N}")
     return """// The lifted kernel of the thirds of 12 and 24 (those of 36 and more are lengths themselves), with BASE_8 for the sums of a block of 24, and the cosines beside e and f in rB(n)
-// and rC(n), n from 0 to N/3 - 1, each with 2^27 added, so that none is negative; fB with its sign changed first.
-ghost use mathlib.Core.Path.{_≡_};
-ghost use Rattle·cosine.specs.Kernels.{eB, fB, eC, fC};
-ghost use Rattle·tables·specs.specs.LiftLists.{liftList, baseList};
-ghost use Rattle·tables·specs.specs.CosineLists.{cosines, negated};
+// and rC(n), n from 0 to N/3 - 1, each with 2^27 added, so that none is negative; f_b with its sign changed first.
+ghost use Rattle.std.specs.Prelude.{◌≡◌};
+ghost use Rattle.cosine.specs.Kernels.{e_b, f_b, e_c, f_c};
+ghost use Rattle.tables.specs.LiftLists.{lift_list, base_list};
+ghost use Rattle.tables.specs.CosineLists.{cosines, negated};
 """
 
 
@@ -98,12 +100,14 @@ def sides():
             for e in (0, 2):
                 kernel = [[F(N, 3 * k + e, 3 * j + c) for j in range(h)] for k in range(h)]
                 lifted = [kernel[k][j] + KERNEL for j in range(h) for k in range(h)]
-                table(f"side_{N}_{c}_{e}", lifted + [sum(row) for row in kernel], f"sideList {N} {c} {e}")
+                table(f"side_{N}_{c}_{e}", lifted + [sum(row) for row in kernel], f"side_list {N} {c} {e}")
     return """// The folded kernel of each length from 24 on, at the places that are not the middle of their three, each table a function whose contract is its definition.
 // SIDE_N_C_E has the inputs 3j + C and the outputs 3k + E, h = N/6 of each: entry j × h + k is F(3k + E, 3j + C) + 2^26, and behind them entry h² + k is the sum over j.
 // No function here is a public call: the bodies for each length in `block_sums` lend them.
-ghost use mathlib.Core.Path.{_≡_};
-ghost use Rattle·sides·specs.specs.SideLists.{sideList};
+#![tactic(auto)]
+
+ghost use Rattle.std.specs.Prelude.{◌≡◌};
+ghost use Rattle.sides.specs.SideLists.{side_list};
 """
 
 
