@@ -6,7 +6,6 @@ use Rattle.cosine.specs.LengthLaws.{short_is_tabled}
 use Rattle.transform.specs.Analysis.{y, X, direct}
 use Rattle.split.specs.ShortRoute.{short_x, short}
 use Rattle.split.specs.OfferLaws as O
-use Rattle.double_route.specs.Double as D
 use Rattle.double_route.specs.Double.{double_x, double}
 use Rattle.double_route.specs.PieceLaws as P
 use Rattle.analysis.specs.declared.Route.{Route}

@@ -939,7 +939,7 @@ fn last_of(m: usize, first: usize, behind: usize) -> usize
 // A table that is taken, by its seed: lines of up to `reach` coefficients, and steps up to `largest`.
 fn put_random(buf: &mut [u8], m: usize, seed: u64, reach: usize, largest: usize) -> usize
     requires m_bound { (m ≤ 108) × (seed < 2 ^ 32) }
-    requires le_reach { (1 ≤ reach) × (reach ≤ 216) × (1 ≤ largest) × (largest ≤ 65536) }
+    requires reach_and_largest { (1 ≤ reach) × (reach ≤ 216) × (1 ≤ largest) × (largest ≤ 65536) }
     ensures { result ≤ length buf.new }
 {
     let mut at = 0;

@@ -1,4 +1,4 @@
--- The three demands, proved: `demand_1`, `demand_2` and `demand_3` are the records of Demands, `either_order` is that of orders, `levels-kept` is that of levels, `sparse_kept` that of sparse changes, `coarsest-found` that of the coarsest step, `floats-exact` that of floats, and `beyond` what is proved beyond the third.
+-- The three demands, proved: `demand_1`, `demand_2` and `demand_3` are the records of Demands, `either_order` is that of orders, `levels_kept` is that of levels, `sparse_kept` that of sparse changes, `coarsest_found` that of the coarsest step, `floats_exact` that of floats, and `beyond` what is proved beyond the third.
 use Rattle.std.specs.Prelude.{◌+◌, ◌*◌}
 use Rattle.analysis.specs.declared.Route.TheVariants.{Direct}
 use Rattle.step_search.specs.Search.{sure}
@@ -48,8 +48,8 @@ demand_3 = record {
   one_Q = one_Q;
 }
 
-pub levels-kept : LevelsKept
-levels-kept = record {
+pub levels_kept : LevelsKept
+levels_kept = record {
   moved = Moved.moved;
   goes_back = Moved.dequantise_takes;
   always_taken = Moved.always_taken;
@@ -72,8 +72,8 @@ sparse_kept = record {
   one = Sparse.sparse_one;
 }
 
-pub coarsest-found : CoarsestFound
-coarsest-found = record {
+pub coarsest_found : CoarsestFound
+coarsest_found = record {
   found = Coarse.found_on;
   sure_keeps = λ N H x D s t c l. Coarse.passes_keeps N H x s D (sure D) (Coarse.sure-passes N H x s t c l D);
   told = λ N H x D step s t c l p q. Coarse.passes_keeps N H x s D step (Coarse.told-passes N H x s t c l D step p q);
@@ -87,8 +87,8 @@ coarsest-found = record {
   at_0 = Coarse.answer_0;
 }
 
-pub floats-exact : FloatsExact
-floats-exact = record { exactly = Floats.exactly; floats = Floats.floats_on; ends = Floats.ends_on }
+pub floats_exact : FloatsExact
+floats_exact = record { exactly = Floats.exactly; floats = Floats.floats_on; ends = Floats.ends_on }
 
 pub beyond : Beyond
 beyond = record {

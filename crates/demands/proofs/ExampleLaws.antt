@@ -20,7 +20,7 @@ use Rattle.analysis.specs.declared.Route.{Route}
 use Rattle.analysis.specs.Analysis.{offered, spectrum, coefficients, units_of}
 use Rattle.recording.specs.Recordings.{silence, padded, standing, block}
 use Rattle.orders.specs.Orders.{place, block_at, coefficient_at, part, laid}
-use Rattle.recording.specs.Recordings.{analysis as recordingOf}
+use Rattle.recording.specs.Recordings.{analysis as recording_of}
 use Rattle.stream.specs.Steps.{next, hop}
 use Rattle.checks.specs.Causes.{first_cause}
 use Rattle.block_calls.specs.Analysis.{analyse_causes, analyse_code, analyse_out}
@@ -29,7 +29,7 @@ use Rattle.recording_calls.specs.Recordings.{recorded_causes, recorded_code, rec
 use Rattle.stream.specs.declared.Stream.{Stream}
 use Rattle.level_calls.specs.LevelCalls as L
 use Rattle.stream_calls.specs.Streams.{fresh, sound_tail, sound, fits, step_causes, step_code, step, step_out}
-use Rattle.state_calls.specs.States.{entries, number_in as entryNumber, stream_in, fresh_causes, fresh_code, fresh_state, step_code as state_code}
+use Rattle.state_calls.specs.States.{entries, number_in as entry_number, stream_in, fresh_causes, fresh_code, fresh_state, step_code as state_code}
 use Rattle.demands.specs.Steps.{Offer, Turn, answered, run, taken, offers_of, turns, final, Entry, Recording, Brought, Numbered, change, Answered, Returned, WholeReturned, ReturnedOneQ, Sharper}
 use Rattle.demands.specs.Steps.Entry.{first, later}
 use Rattle.demands.proofs.RunLaws.{no_entry, entry-offer, entry-turn}
@@ -63,7 +63,7 @@ unfolding floor rnd clamp sum table all every cosines analysis synthesis example
 computed = tt
 
 unfoldable pub answers : Unit {0}
-unfolding computed short_lengths short_tabled R.offered D.offered offered analyse_causes analyse_code analyse_out counted joined place block_at coefficient_at part laid recorded_causes recorded_code recorded_out recordingOf played_causes played_code whole hops_room knock_whole sparse_whole
+unfolding computed short_lengths short_tabled R.offered D.offered offered analyse_causes analyse_code analyse_out counted joined place block_at coefficient_at part laid recorded_causes recorded_code recorded_out recording_of played_causes played_code whole hops_room knock_whole sparse_whole
 answers = tt
 
 -- the numbers that the steps return
@@ -341,7 +341,7 @@ pub below_zero : List ℤ
 below_zero = pos 12 ∷ minus 1 ∷ pos 0 ∷ replicate storage (pos 0)
 
 below_zero-tail : SoundTail (stream_in below_zero)
-unfolding stream_in entryNumber below_zero tail_limit
+unfolding stream_in entry_number below_zero tail_limit
 below_zero-tail = record { each = λ n p. rw (get_or-replicate storage n (pos 0) (pos 0) (omega arith)) (omega arith) }
 
 -- and one whose shape is -1 or 2 takes none either
@@ -349,18 +349,18 @@ pub misshapen : ℤ → List ℤ
 misshapen z = pos 12 ∷ pos 3 ∷ z ∷ replicate storage (pos 0)
 
 misshapen-tail : (z : ℤ) → SoundTail (stream_in (misshapen z))
-unfolding stream_in entryNumber misshapen tail_limit
+unfolding stream_in entry_number misshapen tail_limit
 misshapen-tail z = record { each = λ n p. rw (get_or-replicate storage n (pos 0) (pos 0) (omega arith)) (omega arith) }
 
 pub no_shape_below : (l r : ℕ) (x out : List ℤ) → state_code (misshapen (minus 1)) 3 l r x out ≡ 8
-unfolding stream_in entryNumber misshapen
+unfolding stream_in entry_number misshapen
 no_shape_below l r x out = (demand_1.state_stepped (misshapen (minus 1)) 3 l r x out).eight_negative refl twelve (misshapen-tail (minus 1)) refl (record { lt = tt })
 
 pub no_shape_above : (l r : ℕ) (x out : List ℤ) → state_code (misshapen (pos 2)) 3 l r x out ≡ 8
-unfolding stream_in entryNumber misshapen
+unfolding stream_in entry_number misshapen
 no_shape_above l r x out = (demand_1.state_stepped (misshapen (pos 2)) 3 l r x out).eight_large refl twelve (misshapen-tail (pos 2)) refl (record { lt = tt })
 
 pub none_expected : (number l r : ℕ) → number < 2 ^ 32 → (x out : List ℤ) → state_code below_zero number l r x out ≡ 7
 none_expected number l r p x out =
-    (demand_1.state_stepped below_zero number l r x out).seven_negative (unfold below_zero in refl) (unfold below_zero in unfold stream_in in unfold entryNumber in twelve) below_zero-tail p
+    (demand_1.state_stepped below_zero number l r x out).seven_negative (unfold below_zero in refl) (unfold below_zero in unfold stream_in in unfold entry_number in twelve) below_zero-tail p
     (unfold below_zero in record { lt = tt })

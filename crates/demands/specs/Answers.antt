@@ -24,7 +24,7 @@ use Rattle.table_report.specs.Report.{taken_lines, report_of}
 use Rattle.shares.specs.Shares.{largest_share}
 use Rattle.share_calls.specs.ShareCalls.{answered_with, refused_with, share_answer, name_code, name_out}
 use Rattle.share_calls.specs.RecordingShares.{share_at, numbered_from, recording_share, recording_name_code, recording_name_out}
-use Rattle.coarsest.specs.Coarsest.{coarsest as coarsestStep}
+use Rattle.coarsest.specs.Coarsest.{coarsest as coarsest_step}
 use Rattle.coarsest_calls.specs.CoarsestCalls as Calls
 use Rattle.coarsest_calls.specs.CoarsestCalls.{coarsest_answer, find_code, find_out}
 use Rattle.coarsest_report.specs.Report as Reports
@@ -398,7 +398,7 @@ pub record CoarsestAnswers (N H : ℕ) (x : List ℤ) (D budget : ℕ) : Type 0 
   pub two_hops : Tabled N → ¬ Counted H → coarsest_answer N H x D budget ≡ Calls.refused_with 2
   pub two : Tabled N → length x ≢ H * (N / 2) → coarsest_answer N H x D budget ≡ Calls.refused_with 2
   pub twelve : Tabled N → Counted H → length x ≡ H * (N / 2) → 32 < D → coarsest_answer N H x D budget ≡ Calls.refused_with 12
-  pub taken : Tabled N → Counted H → length x ≡ H * (N / 2) → D ≤ 32 → coarsest_answer N H x D budget ≡ Calls.answered_with (coarsestStep N H x D budget)
+  pub taken : Tabled N → Counted H → length x ≡ H * (N / 2) → D ≤ 32 → coarsest_answer N H x D budget ≡ Calls.answered_with (coarsest_step N H x D budget)
 
 -- `find_step`, the same into room for three numbers, another length being 2, before 12, and the call for C
 pub record FindAnswers (N H : ℕ) (x : List ℤ) (D budget : ℕ) (room : List ℕ) : Type 0 where
@@ -418,10 +418,10 @@ pub record FoundReportAnswers (distance budget text : List ℕ) : Type 0 where
   pub two : (N : ℕ) (hops : List (List ℕ)) → Listed text N hops → ¬ Counted (length hops) → Reports.report_of distance budget text ≡ refusal 2 0
   pub twelve : (N : ℕ) (hops : List (List ℕ)) → Listed text N hops → Counted (length hops) → ((D : ℕ) → D ≤ 32 → ¬ Whole digits distance D) → Reports.report_of distance budget text ≡ refusal 12 0
   pub taken : (N : ℕ) (hops : List (List ℕ)) → Listed text N hops → Counted (length hops) → (D : ℕ) → D ≤ 32 → Whole digits distance D → (b : ℕ) → Whole most_digits budget b →
-      let r = coarsestStep N (length hops) (recording (hops_of text)) D b in Reports.report_of distance budget text ≡ Reports.found_lines r.step r.trials r.untried
+      let r = coarsest_step N (length hops) (recording (hops_of text)) D b in Reports.report_of distance budget text ≡ Reports.found_lines r.step r.trials r.untried
   -- bytes that are no budget stand for none: the command asks `is_budget` before it prints anything
   pub no_budget : (N : ℕ) (hops : List (List ℕ)) → Listed text N hops → Counted (length hops) → (D : ℕ) → D ≤ 32 → Whole digits distance D → ((b : ℕ) → ¬ Whole most_digits budget b) →
-      let r = coarsestStep N (length hops) (recording (hops_of text)) D 0 in Reports.report_of distance budget text ≡ Reports.found_lines r.step r.trials r.untried
+      let r = coarsest_step N (length hops) (recording (hops_of text)) D 0 in Reports.report_of distance budget text ≡ Reports.found_lines r.step r.trials r.untried
 
 -- ---- floats (P14)
 -- `floats`

@@ -1,5 +1,5 @@
 -- THE THREE DEMANDS, for every signal, over the definitions that the contracts of the public calls cite (specs/ of block_calls, stream_calls,
--- state_calls, recording_calls, level_calls, share_calls, coarsest_calls, float_calls, page, listing and, for an order's number, orders). Each record below is one demand or a part of it; the theorems `demand_1`, `demand_2`, `either_order`, `demand_3`, `levels-kept`, `sparse_kept`, `coarsest-found`, `floats-exact` and `beyond` of DemandLaws prove them.
+-- state_calls, recording_calls, level_calls, share_calls, coarsest_calls, float_calls, page, listing and, for an order's number, orders). Each record below is one demand or a part of it; the theorems `demand_1`, `demand_2`, `either_order`, `demand_3`, `levels_kept`, `sparse_kept`, `coarsest_found`, `floats_exact` and `beyond` of DemandLaws prove them.
 --
 -- What the contracts add: a call ends on any numbers and any buffer lengths and never overflows, and what it returns and leaves is what these
 -- definitions say. A check of the public calls' crates proves that of the code.

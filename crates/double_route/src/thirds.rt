@@ -97,7 +97,7 @@ fn thirds_72(y: &[i32], wa: &mut [i32], wb: &mut [i32], wg: &mut [i32])
 // The same by the length of y, whose thirds are split again.
 pub fn thirds(y: &[i32], wa: &mut [i32], wb: &mut [i32], wg: &mut [i32])
     requires piece { Piece (length y.now) y.now }
-    requires in_bounds { 36 ≤ length y.now }
+    requires y_long { 36 ≤ length y.now }
     requires rooms { Rooms (length y.now / 3) wa.old wb.old wg.old }
     ensures { Thirds (length y.now) y.now wa.new wb.new wg.new }
 {

@@ -1,27 +1,17 @@
 -- Laws of size that rest on what is printed of a hop: the rows, the table and the listing have room.
-use Rattle.std.specs.Prelude.{◌≡◌, refl, Bool, true, false, cond, List, [], ◌∷◌, ◌++◌, map, ℕ, zero, suc, ◌+◌, ◌*◌, ◌/◌, ◌≤◌, ◌<◌, T, eqb, length, get_or, ℤ, nat_abs}
-use Rattle.std.proofs.Common.{sym, ap, ◌∙◌, mul-le-mul_left, mul-le-mul_right, arith, add-one, eqb-true}
+use Rattle.std.specs.Prelude.{◌≡◌, refl, Bool, true, false, cond, List, ℕ, suc, ◌+◌, ◌*◌, ◌/◌, ◌≤◌, ◌<◌, eqb, length}
+use Rattle.std.proofs.Common.{mul-le-mul_right, arith, eqb-true}
 use Rattle.std.proofs.Math.ListN.{length-append}
-use Rattle.arithmetic.specs.Lists as Entries
 use Rattle.arithmetic.specs.Lists.{at}
 use Rattle.arithmetic.specs.RoundingLaws.{sample_abs}
-use Rattle.cosine.specs.Kernels.{tabled}
 use Rattle.cosine.specs.LengthLaws.{tabled_length}
 use Rattle.stream.specs.NextLaws.{returned_long}
-use Rattle.text.specs.Bytes.{line_feed, comma}
-use Rattle.text.specs.Number.{decimal, printed}
-use Rattle.text.specs.NumberLaws.{number_long}
-use Rattle.text.specs.Lines.{lines, fields, more, line}
-use Rattle.text.specs.LineLaws.{split-weight, lines-weight, parts-weight, behind-weight}
-use Rattle.text.specs.Refusal.{word_refused, refusal}
-use Rattle.listing.specs.Print.{word_hop, word_s, header, row}
-use Rattle.listing.specs.Hops.{digits, is_hop}
-use Rattle.listing.specs.HopLaws.{sample-number, hop-fields, hop_field, hops-counted, hops-length, hops-sample}
-use Rattle.listing.specs.Verdicts.{limit, verdict, hops_of}
+use Rattle.text.specs.Refusal.{refusal}
+use Rattle.listing.specs.Print.{header, row}
+use Rattle.listing.specs.Verdicts.{verdict, hops_of}
 use Rattle.listing.specs.VerdictLaws.{Taken, verdict-taken, verdict-code, verdict-line}
-use Rattle.listing.specs.PrintLaws.{decimal-most, decimal-short, printed-most, names-next}
 use Rattle.listing.specs.Listing.{recording, analysed, returned_hops, rows, table, listing}
-use Rattle.listing.specs.BankLaws.{Hops, returned-sample}
+use Rattle.listing.specs.BankLaws.{returned-sample}
 use Rattle.listing.specs.SizeLaws.{room, table-room, row-most, rows-most, refusal-most, header-most, hops-most, hops_bytes}
 
 module _ {text : List ℕ} {N H : ℕ} (K : Taken text N H) where

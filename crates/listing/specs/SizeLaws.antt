@@ -1,13 +1,11 @@
 -- Laws of size: how many hops a listing can have, and how many bytes are printed of it.
-use Rattle.std.specs.Prelude.{◌≡◌, refl, Bool, true, false, cond, List, [], ◌∷◌, ◌++◌, map, ℕ, zero, suc, ◌+◌, ◌*◌, ◌/◌, ◌≤◌, ◌<◌, T, eqb, length, get_or, ℤ, nat_abs}
-use Rattle.std.proofs.Common.{sym, ap, ◌∙◌, mul-le-mul_left, mul-le-mul_right, arith, add-one, eqb-true}
+use Rattle.std.specs.Prelude.{◌≡◌, refl, List, [], ◌∷◌, ◌++◌, map, ℕ, zero, suc, ◌+◌, ◌*◌, ◌/◌, ◌≤◌, ◌<◌, T, length, get_or, ℤ, nat_abs}
+use Rattle.std.proofs.Common.{sym, ap, ◌∙◌, mul-le-mul_left, arith, add-one}
 use Rattle.std.proofs.Math.ListN.{length-append}
 use Rattle.arithmetic.specs.Lists as Entries
 use Rattle.arithmetic.specs.Lists.{at}
-use Rattle.arithmetic.specs.RoundingLaws.{sample_abs}
 use Rattle.cosine.specs.Kernels.{tabled}
 use Rattle.cosine.specs.LengthLaws.{tabled_length}
-use Rattle.stream.specs.NextLaws.{returned_long}
 use Rattle.text.specs.Bytes.{line_feed, comma}
 use Rattle.text.specs.Number.{decimal, printed}
 use Rattle.text.specs.NumberLaws.{number_long}
@@ -17,11 +15,11 @@ use Rattle.text.specs.Refusal.{word_refused, refusal}
 use Rattle.listing.specs.Print.{word_hop, word_s, header, row}
 use Rattle.listing.specs.Hops.{digits, is_hop}
 use Rattle.listing.specs.HopLaws.{sample-number, hop-fields, hop_field, hops-counted, hops-length, hops-sample}
-use Rattle.listing.specs.Verdicts.{limit, verdict, hops_of}
-use Rattle.listing.specs.VerdictLaws.{Taken, verdict-taken, verdict-code, verdict-line}
+use Rattle.listing.specs.Verdicts.{limit, hops_of}
+use Rattle.listing.specs.VerdictLaws.{Taken}
 use Rattle.listing.specs.PrintLaws.{decimal-most, decimal-short, printed-most, names-next}
-use Rattle.listing.specs.Listing.{recording, analysed, returned_hops, rows, table, listing}
-use Rattle.listing.specs.BankLaws.{Hops, returned-sample}
+use Rattle.listing.specs.Listing.{rows}
+use Rattle.listing.specs.BankLaws.{Hops}
 
 -- ---- a hop of M samples takes at least 2M bytes, its line feed among them
 hop_bytes : (M : ℕ) (l : List ℕ) → T (is_hop M l) → M * 2 ≤ suc (length l)

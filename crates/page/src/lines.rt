@@ -77,7 +77,7 @@ fn put_part(
     room: &mut [i32],
     out: &mut [u8],
 )
-    requires m_value { (m / 6 * 6 ≡ m) × (m ≤ 108) × (blocks ≤ 4096) × (b < blocks) }
+    requires sizes { (m / 6 * 6 ≡ m) × (m ≤ 108) × (blocks ≤ 4096) × (b < blocks) }
     requires small { Small x.now (2 ^ 29) × (length x.now ≡ blocks * m) × (length room.old ≡ m) × (length out.old ≡ m / 6 * 81) }
     ensures { out.new ≡ joined (m / 6) (λ j. columns b (part order m blocks x.now b) j ++ (line_feed ∷ [])) }
 {

@@ -8,11 +8,9 @@ use Rattle.stream.specs.Synthesis.{storage}
 use Rattle.stream.specs.Steps.{stream_after}
 use Rattle.stream.specs.NextLaws as S
 use Rattle.stream.specs.NextLaws.{Fine}
-use Rattle.analysis.specs.Analysis.{coefficients}
 use Rattle.orders.specs.declared.Order.{Order}
 use Rattle.orders.specs.Orders.{part}
 use Rattle.orders.specs.OrderLaws.{part_long, part_small}
-use Rattle.recording.specs.Recordings.{block}
 use Rattle.arithmetic.specs.JoinLaws.{within}
 
 -- ---- where hop h of H lies, in so many places

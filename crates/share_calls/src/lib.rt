@@ -73,8 +73,8 @@ fn in_ranges(
     second: &[i32],
     second_changed: &[i32],
 ) -> bool
-    requires m_value { 6 * (m / 6) ≡ m }
-    requires first_len { (length first.now ≡ m) × (length first_changed.now ≡ m) × (length second.now ≡ m) × (length second_changed.now ≡ m) }
+    requires m_by_six { 6 * (m / 6) ≡ m }
+    requires lengths { (length first.now ≡ m) × (length first_changed.now ≡ m) × (length second.now ≡ m) × (length second_changed.now ≡ m) }
     ensures { result ≡ ranged m first.now first_changed.now second.now second_changed.now }
 {
     if !checks::in_range(first, m) {

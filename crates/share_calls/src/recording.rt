@@ -81,7 +81,7 @@ fn share_at(
     place: usize,
 ) -> Named
     requires tabled { T (tabled n) × (hops ≤ 4095) × (hop < hops) × (place < n / 2) }
-    requires original_len { (length original.now ≡ (hops + 1) * (n / 2)) × (length changed.now ≡ (hops + 1) * (n / 2)) }
+    requires lengths { (length original.now ≡ (hops + 1) * (n / 2)) × (length changed.now ≡ (hops + 1) * (n / 2)) }
     requires small { Small original.now (2 ^ 29) × Small changed.now (2 ^ 29) }
     ensures { result ≡ share_at order n hops original.now changed.now hop place }
 {

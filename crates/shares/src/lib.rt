@@ -40,7 +40,7 @@ fn apart(a: i32, b: i32) -> u64
 
 // The size of the change of coefficient k times that of K(i,k).
 fn change_times(cos: &[i32; 217], n: usize, i: usize, x: &[i32], y: &[i32], k: usize) -> u64
-    requires cos_value { (cos.now ≡ numbers) × T (tabled n) × (i < n) × (k < n / 2) }
+    requires ready { (cos.now ≡ numbers) × T (tabled n) × (i < n) × (k < n / 2) }
     requires x_len { (length x.now ≡ n / 2) × (length y.now ≡ n / 2) × Small x.now (2 ^ 29) × Small y.now (2 ^ 29) }
     ensures { (result ≡ change_times n i x.now y.now k) × (result ≤ 2 ^ 56) }
 {
@@ -49,7 +49,7 @@ fn change_times(cos: &[i32; 217], n: usize, i: usize, x: &[i32], y: &[i32], k: u
 
 // The largest of a block at its place i, the lowest coefficient of equal ones.
 fn largest_in(cos: &[i32; 217], n: usize, i: usize, x: &[i32], y: &[i32]) -> Largest
-    requires cos_value { (cos.now ≡ numbers) × T (tabled n) × (i < n) }
+    requires ready { (cos.now ≡ numbers) × T (tabled n) × (i < n) }
     requires x_len { (length x.now ≡ n / 2) × (length y.now ≡ n / 2) × Small x.now (2 ^ 29) × Small y.now (2 ^ 29) }
     ensures { (result ≡ largest_in (n / 2) (change_times n i x.now y.now)) × (result.product ≤ 2 ^ 56) × (result.coefficient < n / 2) }
 {
@@ -117,7 +117,7 @@ pub fn largest_share(
     place: usize,
 ) -> Named
     requires tabled { T (tabled n) × (place < n / 2) }
-    requires first_len { (length first.now ≡ n / 2) × (length first_changed.now ≡ n / 2) × (length second.now ≡ n / 2) × (length second_changed.now ≡ n / 2) }
+    requires lengths { (length first.now ≡ n / 2) × (length first_changed.now ≡ n / 2) × (length second.now ≡ n / 2) × (length second_changed.now ≡ n / 2) }
     requires small { Small first.now (2 ^ 29) × Small first_changed.now (2 ^ 29) × Small second.now (2 ^ 29) × Small second_changed.now (2 ^ 29) }
     ensures { result ≡ largest_share n shape place first.now first_changed.now second.now second_changed.now }
 {

@@ -1,5 +1,5 @@
 -- Laws: the sums A, B and G of the short route are those of a direct analysis of a third of the length.
-use Rattle.std.specs.Prelude.{◌≡◌, ℕ, ◌*◌, ◌/◌, ℤ, ◌*ℤ◌}
+use Rattle.std.specs.Prelude.{◌≡◌, ℕ, ◌/◌, ℤ, ◌*ℤ◌}
 use native.Mathlib.Omega.{arith}
 use Rattle.std.proofs.Math.IntN.{*ℤ_comm}
 use Rattle.arithmetic.specs.Sums.{sum}

@@ -18,7 +18,7 @@ fn tilt(x: i16) -> i32
 // rnd(w x / 2^18) in 32 bits: with w = 2^13 hi + lo it is the floor of (hi x + floor((lo x + s) / 2^13) + 2^4) / 2^5, s being the tilt.
 // The remainders tell the compiler that hi and lo have 16 bits: SSE2 multiplies such numbers in one step.
 fn weighted(w: i32, x: i16) -> i32
-    requires pos_bound { pos 0 ≤ℤ w }
+    requires w_not_negative { pos 0 ≤ℤ w }
     requires w_bound { nat_abs w ≤ 2 ^ 26 }
     ensures value { result ≡ rnd (w *ℤ x) (2 ^ 18) }
     ensures result_bound { nat_abs result ≤ 2 ^ 23 }
@@ -85,7 +85,7 @@ pub fn windowed_block(size: usize, rise: &[i32], fall: &[i32], x: &[i16], out: &
 
 // A sum of the split, divided by 2^k.
 fn rounded(s: i64, k: u32) -> i32
-    requires le_k { 28 ≤ k }
+    requires k_least { 28 ≤ k }
     requires k_bound { k ≤ 29 }
     requires s_bound { nat_abs s ≤ 2 ^ 58 }
     ensures { result ≡ rnd s (2 ^ k) }

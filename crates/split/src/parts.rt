@@ -20,7 +20,7 @@ struct Triple {
 
 // Place j of the inputs w, folded to half their number.
 fn folded_at(w: &[i32], j: usize) -> i32
-    requires w_value { 4 * (length w.now / 4) ≡ length w.now }
+    requires w_by_four { 4 * (length w.now / 4) ≡ length w.now }
     requires j_in_bounds { j < length w.now / 2 }
     requires small { Small w.now (2 ^ 28) }
     ensures { result ≡ folded (length w.now) (at w.now) j }
@@ -34,8 +34,8 @@ fn folded_at(w: &[i32], j: usize) -> i32
 }
 
 fn fold(w: &[i32], z: &mut [i32])
-    requires w_value { 4 * (length w.now / 4) ≡ length w.now }
-    requires z_value { 2 * length z.old ≡ length w.now }
+    requires w_by_four { 4 * (length w.now / 4) ≡ length w.now }
+    requires z_len { 2 * length z.old ≡ length w.now }
     requires small { Small w.now (2 ^ 28) }
     ensures { z.new ≡ table (length z.old) (folded (length w.now) (at w.now)) }
 {

@@ -61,9 +61,9 @@ pub record Open (s : Search) : Type 0 where
   pub more : s.least < s.step
   pub some : 0 < s.left
 
-pub is-unfinished : (s : Search) → T (unfinished s) → Open s
+pub unfinished_is_open : (s : Search) → T (unfinished s) → Open s
 unfolding unfinished
-is-unfinished s t = go (ℕ_discrete s.left 0)
+unfinished_is_open s t = go (ℕ_discrete s.left 0)
   where
     go : Dec (s.left ≡ 0) → Open s
     go (yes e) = absurd (rw (eq-eqb s.left 0 e) at t)
@@ -83,18 +83,18 @@ module _ (pass : ℕ → Bool) (D budget : ℕ) (s : Search) (o : Going pass D b
   module _ (t : T (unfinished s)) where
     -- a step that is tried is above 15
     pub step-least : 16 ≤ s.step
-    step-least = omega (arith, (is-unfinished s t).more, o.least_is, (sure-is D).least)
+    step-least = omega (arith, (unfinished_is_open s t).more, o.least_is, (sure-is D).least)
 
     pub going_passed : pass s.step ≡ true → stopped s ≡ found pass D budget
     going_passed e =
-        let q = is-unfinished s t in
+        let q = unfinished_is_open s t in
         let h = here (omega (arith, q.more)) in
         sym (o.is
         ∙ rw (one_passes pass s.least (s.step - s.least) s.left (omega (arith, q.more)) q.some (rw h e)) (ap (λ (n : ℕ). record { step = n; trials = s.trials + 1; untried = 0 }) h))
 
     pub going_on : pass s.step ≡ false → Going pass D budget (behind s)
     going_on e =
-        let q = is-unfinished s t in
+        let q = unfinished_is_open s t in
         let h = here (omega (arith, q.more)) in
         let lower : s.step - 1 - s.least ≡ s.step - s.least - 1 = omega (arith, q.more) in
         let c = searched pass s.least (s.step - s.least - 1) (s.left - 1) in

@@ -29,7 +29,7 @@ fn larger(a: u32, b: u32) -> u32
 // The largest step of a table that is taken.
 pub fn coarsest(table: &[u8], m: usize) -> u32
     requires m_nonzero { (0 < m) × (m ≤ 108) }
-    requires table_value { table_code m table.now ≡ 0 }
+    requires table_taken { table_code m table.now ≡ 0 }
     ensures { result ≡ Table·coarsest m table.now }
 {
     let mut at = 0;

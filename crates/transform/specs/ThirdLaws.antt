@@ -17,7 +17,7 @@ use Rattle.arithmetic.specs.ListLaws.{length-table, get_d_table, table_ext}
 use Rattle.arithmetic.specs.TestLaws.{cond_lt, cond_ge}
 use Rattle.arithmetic.specs.IntegerLaws.{ints}
 use Rattle.arithmetic.specs.OrderLaws.{abs_mul_le, abs_add, abs_sub}
-use Rattle.cosine.specs.Kernels.{d, F}
+use Rattle.cosine.specs.Kernels.{F}
 use Rattle.cosine.specs.LengthLaws.{Part}
 use Rattle.cosine.specs.KernelLaws.{F-size, F_symmetric, F-less, F-more}
 use Rattle.cosine.specs.SplitLaws.{F-parts}

@@ -7,7 +7,7 @@ ghost use Rattle.tables.specs.HalfLaws.{WindowHalf, Halves};
 
 // rnd(w x / 2^18). To 2^16 times the product x itself is added, which is smaller than 2^16: so it decides at an exact half, and nowhere else.
 fn weighted(w: i32, x: i16) -> i32
-    requires pos_bound { pos 0 ≤ℤ w }
+    requires w_not_negative { pos 0 ≤ℤ w }
     requires w_bound { nat_abs w ≤ 2 ^ 26 }
     ensures value { result ≡ rnd (w *ℤ x) (2 ^ 18) }
     ensures result_bound { nat_abs result ≤ 2 ^ 23 }
@@ -57,7 +57,7 @@ fn negated_sum(fall: &[i32], x: &[i16], m: usize, a: usize, b: usize) -> i32
 fn folded_at(rise: &[i32], fall: &[i32], x: &[i16], m: usize, j: usize) -> i32
     requires halves { Halves m rise.now fall.now }
     requires x_len { length x.now ≡ 2 * m }
-    requires m_value { 2 * (m / 2) ≡ m }
+    requires m_even { 2 * (m / 2) ≡ m }
     requires j_lt_m { j < m }
     ensures value { result ≡ hops m rise.now fall.now x.now j }
     ensures result_bound { nat_abs result ≤ 2 ^ 24 }
@@ -73,7 +73,7 @@ fn folded_at(rise: &[i32], fall: &[i32], x: &[i16], m: usize, j: usize) -> i32
 pub fn fold(rise: &[i32], fall: &[i32], x: &[i16], z: &mut [i32])
     requires halves { Halves (length z.old) rise.now fall.now }
     requires x_len { length x.now ≡ 2 * length z.old }
-    requires z_value { 2 * (length z.old / 2) ≡ length z.old }
+    requires z_even { 2 * (length z.old / 2) ≡ length z.old }
     ensures z_after { z.new ≡ table (length z.old) (hops (length z.old) rise.now fall.now x.now) }
     ensures small { Small z.new (2 ^ 24) }
 {

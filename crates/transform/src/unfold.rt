@@ -36,7 +36,7 @@ fn weighted_negated(w: i32, u: i64) -> i64
 // V at place n, from the rounded sums.
 fn value(rise: &[i32], fall: &[i32], t: &[i64], n: usize) -> i64
     requires halves { Halves (length t.now) rise.now fall.now }
-    requires t_value { 2 * (length t.now / 2) ≡ length t.now }
+    requires t_even { 2 * (length t.now / 2) ≡ length t.now }
     requires n_bound { n < 2 * length t.now }
     requires small { Small t.now (2 ^ 36) }
     ensures { result ≡ value_at rise.now fall.now t.now n }
@@ -58,7 +58,7 @@ fn value(rise: &[i32], fall: &[i32], t: &[i64], n: usize) -> i64
 pub fn values(rise: &[i32], fall: &[i32], t: &[i64], v: &mut [i64])
     requires halves { Halves (length t.now) rise.now fall.now }
     requires v_len { length v.old ≡ 2 * length t.now }
-    requires t_value { 2 * (length t.now / 2) ≡ length t.now }
+    requires t_even { 2 * (length t.now / 2) ≡ length t.now }
     requires small { Small t.now (2 ^ 36) }
     ensures { v.new ≡ table (length v.old) (value_at rise.now fall.now t.now) }
 {

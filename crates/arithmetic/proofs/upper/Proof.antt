@@ -1,7 +1,6 @@
 -- `upper` meets its contract: the shift is the floor, and by 2^32 it leaves 32 bits.
 use mathlib.Core.Path.{◌≡◌, ◌∙◌}
 use Prim.Native.Nat.{◌^◌}
-use native.Mathlib.Omega.{arith}
 use lib.Signed.{shr_z}
 use mir.Syntax.{w32, w64}
 use mir.Val.{SFits, to_z, of_z}

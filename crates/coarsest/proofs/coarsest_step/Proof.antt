@@ -6,7 +6,7 @@ use native.Mathlib.Omega.{arith}
 use lib.Dec.{T}
 use Rattle.arithmetic.specs.TestLaws.{is_T}
 use Rattle.step_search.specs.Progress.{unfinished}
-use Rattle.step_search.specs.ProgressLaws.{Going, is-unfinished, going_begun, going_passed, going_on, going_ended, trials_few, step-most, step-least}
+use Rattle.step_search.specs.ProgressLaws.{Going, unfinished_is_open, going_begun, going_passed, going_on, going_ended, trials_few, step-most, step-least}
 use Rattle.coarsest.specs.Coarsest.{passes, coarsest}
 use Rattle.coarsest.proofs.coarsest_step.Statement.{statement}
 use Rattle.coarsest.proofs.coarsest_step.Tie as tie
@@ -70,14 +70,14 @@ after_failure_requires c κs =
     let s = c.before.before.before.before.before.before.before in
     let i = c.before.before in
     let l = i.before.before.loop-s in
-    let q = is-unfinished l.s (goes_on i) in
+    let q = unfinished_is_open l.s (goes_on i) in
     (omega (arith, q.more), q.some, trials_few (pass s) (D s) (budget s) l.s l.invariant)
 
 loop-less : tie.Need-loop-s-smaller invariant-loop decreases-loop
 loop-less c =
     let i = c.before.before.before in
     let l = i.before.before.loop-s in
-    rw c.after_failure-s.ensures (omega (arith, (is-unfinished l.s (goes_on i)).more))
+    rw c.after_failure-s.ensures (omega (arith, (unfinished_is_open l.s (goes_on i)).more))
 
 loop-again : tie.Need-loop-s-preserved invariant-loop decreases-loop
 loop-again c =

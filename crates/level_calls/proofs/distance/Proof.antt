@@ -4,7 +4,6 @@ use Prim.Native.Nat.{◌/◌, ◌≤◌}
 use Rattle.analysis.specs.declared.Route.{Route}
 use Rattle.analysis.specs.declared.Route.TheVariants.{Direct, Short, Double}
 use Rattle.analysis.specs.Analysis.{units_of}
-use Rattle.steps.specs.Table.{coarsest}
 use Rattle.steps.specs.StepLaws.{coarsest-most}
 use Rattle.level_calls.specs.LevelCalls.{half, distance}
 use Rattle.level_calls.specs.LevelCallLaws.{hop-some, hop-most}

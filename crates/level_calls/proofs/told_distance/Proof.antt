@@ -12,7 +12,7 @@ use Rattle.analysis.specs.AnalysisLaws.{offered-tabled}
 use Rattle.checks.specs.Causes.First.{none, stop, pass}
 use Rattle.checks.specs.CauseLaws.{same}
 use Rattle.steps.specs.Table.{table_code}
-use Rattle.level_calls.specs.LevelCalls.{told_causes, distance}
+use Rattle.level_calls.specs.LevelCalls.{told_causes}
 use Rattle.level_calls.specs.LevelCallLaws.{hop-some, hop-most, told-refused, told_taken}
 use borrow.Author.Rules.{rules}
 use Rattle.level_calls.proofs.told_distance.Statement.{statement}

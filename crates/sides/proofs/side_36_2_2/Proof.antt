@@ -1,5 +1,4 @@
 -- `side_36_2_2` by computing.
-use mathlib.Core.List.{◌++◌}
 use Rattle.arithmetic.specs.Sums.{sum}
 use Rattle.arithmetic.specs.Lists.{table}
 use Rattle.cosine.specs.Cosine.{reduced, to_half, to_turn, continued}

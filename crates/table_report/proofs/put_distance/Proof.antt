@@ -1,7 +1,6 @@
 -- `put_distance` meets its contract: a word and the told distance.
 use mathlib.Core.Path.{ap}
 use Rattle.level_calls.specs.declared.Told.{Told}
-use Rattle.level_calls.specs.LevelCalls.{told}
 use Rattle.table_report.specs.Report.{distance_line}
 use borrow.Author.Rules.{rules}
 use Rattle.table_report.proofs.put_distance.Statement.{statement}

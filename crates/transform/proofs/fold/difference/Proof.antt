@@ -12,9 +12,6 @@ use Rattle.arithmetic.specs.OrderLaws.{sfits_abs, abs_add, abs_sub, abs_mul_le}
 use borrow.Author.Rules.{rules}
 use Rattle.transform.proofs.fold.difference.Statement.{statement}
 use Rattle.transform.proofs.fold.difference.Tie as tie
-use Rattle.transform.proofs.fold.difference.Reads as reads
-use Rattle.transform.proofs.fold.difference.Lts as lts
-use Rattle.transform.proofs.fold.windowed.Reads as windowed-reads
 
 -- src/fold.rt:33:5
 windowed_requires : tie.Need-windowed-requires

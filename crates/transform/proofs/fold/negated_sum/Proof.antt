@@ -7,7 +7,6 @@ use mir.Syntax.{w32}
 use mir.Val.{SFits, to_z, of_z}
 use mir.Facts.{to_z-of_z}
 use Rattle.arithmetic.specs.OrderLaws.{sfits_abs, abs_sub, abs_neg}
-use Rattle.transform.specs.HopLaws.{windowed}
 use borrow.Author.Rules.{rules}
 use Rattle.transform.proofs.fold.negated_sum.Statement.{statement}
 use Rattle.transform.proofs.fold.negated_sum.Tie as tie

@@ -5,7 +5,6 @@ use native.Mathlib.Omega.{arith}
 use lib.ListN.{length}
 use mir.Syntax.{w64}
 use mir.Facts.{to_z-of_z}
-use Rattle.arithmetic.specs.Lists.{at}
 use Rattle.arithmetic.specs.ListLaws.{Filled, filled_none, filled_more, filled-all}
 use Rattle.transform.specs.LiftLaws.{raised}
 use Rattle.transform.proofs.sums.columns.Statement.{statement}

@@ -10,7 +10,7 @@ use mir.Val.{to_z, of_z}
 use mir.Facts.{to_z-of_z}
 use Rattle.arithmetic.specs.Lists.{at}
 use Rattle.arithmetic.specs.OrderLaws.{sfits_abs, abs_neg}
-use Rattle.transform.specs.ThirdLaws.{continued, continued-first, continued-second, continued-third}
+use Rattle.transform.specs.ThirdLaws.{continued-first, continued-second, continued-third}
 use Rattle.transform.proofs.thirds.continued.Statement.{statement}
 use Rattle.transform.proofs.thirds.continued.Tie as tie
 
