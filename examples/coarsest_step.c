@@ -2,7 +2,7 @@
  * returns within a distance that it allows, by one budget of trials or another. Each answer is held to the recording by the other calls: stored by
  * the step found, every sample returns within that distance; where no coarser step is left untried, by the next one a sample does not.
  *
- *   (cd crates/c_face && rt lib)
+ *   (cd crates/c_face && rt lib) && mkdir -p target
  *   gcc -O2 -Wall -Wextra -Iinclude examples/coarsest_step.c crates/c_face/out/libc_face.a -o target/coarsest_step
  *   target/coarsest_step
  */

@@ -1,7 +1,7 @@
 /* Prints the coefficients of a recording as a page. N is the argument; standard input brings 16-bit samples, raw and little-endian, as sound
  * tools write them. Zeros fill the last hop.
  *
- *   (cd crates/c_face && rt lib)
+ *   (cd crates/c_face && rt lib) && mkdir -p target
  *   gcc -O2 -Wall -Wextra -Iinclude examples/coefficient_page.c crates/c_face/out/libc_face.a -o target/coefficient_page
  *   sox whale.wav -t raw -e signed -b 16 -c 1 - | target/coefficient_page 36
  *

@@ -2,7 +2,7 @@
  * coefficient with the largest share are named, and played with that coefficient as it was the sample is compared again. A sample of the silence
  * before the sound is moved by no coefficient at all.
  *
- *   (cd crates/c_face && rt lib)
+ *   (cd crates/c_face && rt lib) && mkdir -p target
  *   gcc -O2 -Wall -Wextra -Iinclude examples/largest_share.c crates/c_face/out/libc_face.a -o target/largest_share
  *   target/largest_share
  */

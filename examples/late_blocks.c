@@ -1,7 +1,7 @@
 /* Late blocks: the blocks of a recording reach a stream shuffled and twice each, round after round, until it has taken all of them. It turns away
  * every block that it does not expect, and what returns is held to the recording.
  *
- *   (cd crates/c_face && rt lib)
+ *   (cd crates/c_face && rt lib) && mkdir -p target
  *   gcc -O2 -Wall -Wextra -Iinclude examples/late_blocks.c crates/c_face/out/libc_face.a -o target/late_blocks
  *   target/late_blocks
  */

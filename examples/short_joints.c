@@ -1,7 +1,7 @@
 /* Short joints: a click in silence goes through a stream whose joints are all long, and through one that passes to short joints about the click
  * and back to long ones. Unchanged, every sample returns. Stored coarsely, the click is heard before its time, with short joints by fewer places.
  *
- *   (cd crates/c_face && rt lib)
+ *   (cd crates/c_face && rt lib) && mkdir -p target
  *   gcc -O2 -Wall -Wextra -Iinclude examples/short_joints.c crates/c_face/out/libc_face.a -o target/short_joints
  *   target/short_joints
  */

@@ -1,7 +1,7 @@
 /* Step tables: a customer's table, the distance that is told for it by each route, and a recording that is stored as levels and played from them.
  * Every returned sample is held to the told distance. Then three tables that are turned away.
  *
- *   (cd crates/c_face && rt lib)
+ *   (cd crates/c_face && rt lib) && mkdir -p target
  *   gcc -O2 -Wall -Wextra -Iinclude examples/step_tables.c crates/c_face/out/libc_face.a -o target/step_tables
  *   target/step_tables
  */

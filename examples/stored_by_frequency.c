@@ -2,7 +2,7 @@
  * where it lies together. The coefficients are put by block and back again, and both orders give the same sound. Then the band is muted in three
  * blocks, and the sample that this moved most is explained, from either order.
  *
- *   (cd crates/c_face && rt lib)
+ *   (cd crates/c_face && rt lib) && mkdir -p target
  *   gcc -O2 -Wall -Wextra -Iinclude examples/stored_by_frequency.c crates/c_face/out/libc_face.a -o target/stored_by_frequency
  *   target/stored_by_frequency
  */

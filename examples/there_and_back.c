@@ -1,7 +1,7 @@
 /* There and back: a recording of four hops, every joint of it long, is analysed and synthesised again, block by block and whole, and what
  * returns is held to it.
  *
- *   (cd crates/c_face && rt lib)
+ *   (cd crates/c_face && rt lib) && mkdir -p target
  *   gcc -O2 -Wall -Wextra -Iinclude examples/there_and_back.c crates/c_face/out/libc_face.a -o target/there_and_back
  *   target/there_and_back
  */

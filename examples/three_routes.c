@@ -1,7 +1,7 @@
 /* Three routes: random and loud blocks of 36 and of 72 samples, analysed directly, by the short route and by the double route, and how far from the
  * direct coefficients those of the other two lie at most. The short route keeps within 16 units of 1/64, the double route within 32.
  *
- *   (cd crates/c_face && rt lib)
+ *   (cd crates/c_face && rt lib) && mkdir -p target
  *   gcc -O2 -Wall -Wextra -Iinclude examples/three_routes.c crates/c_face/out/libc_face.a -o target/three_routes
  *   target/three_routes
  */
