@@ -29,7 +29,7 @@ use Rattle.double_route.specs.Double.{double_x, double}
 use Rattle.double_route.specs.DoubleLaws.{double_ext}
 use Rattle.double_route.specs.NearLaws.{within_32}
 use Rattle.stream.specs.declared.Stream.{Stream}
-use Rattle.stream.specs.Steps.{hop, stream_after, returned}
+use Rattle.stream.specs.Steps.{stream_after, returned}
 use Rattle.cosine.specs.KernelLaws.{rising-size, falling-size}
 use Rattle.stream.specs.NextLaws.{Fine, hop_long, hop_entry, next-n, next_expected, next-shape, next-at, next-kept, stream_expected, stream_shape, returned_long}
 use Rattle.analysis.specs.declared.Route.{Route}

@@ -23,7 +23,7 @@ use Rattle.text.specs.Number.{digits_by, decimal, printed}
 use Rattle.text.specs.Lines.{lines}
 use Rattle.text.specs.Columns.{aligned}
 use Rattle.page.specs.Page.{margin, columns, page_of, page_causes, page_code, page_out, number_in}
-use Rattle.demands.specs.Steps.{taken, Recording, change, proved_units, proved_change}
+use Rattle.demands.specs.Steps.{Recording, change, proved_units, proved_change}
 use Rattle.demands.specs.Recordings.{ByOneCall, BlockByBlock, Back, BackOneQ, SharperBack}
 use Rattle.demands.proofs.AnswerLaws.{demand_1}
 use Rattle.demands.proofs.DefinitionLaws.{demand_2}

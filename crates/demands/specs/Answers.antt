@@ -37,7 +37,6 @@ use Rattle.listing.specs.Verdicts.{limit, hops_of}
 use Rattle.text.specs.Refusal.{refusal}
 use Rattle.listing.specs.Listing.{recording, returned_hops, table, listing}
 use Rattle.listing.specs.SizeLaws.{room}
-use Rattle.demands.specs.Steps.{taken}
 
 -- the causes of the table, in words of the input
 abbrev pub Tabled : ℕ → Type 0

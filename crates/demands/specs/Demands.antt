@@ -38,8 +38,7 @@ use Rattle.text.specs.Bytes.{line_feed, blank}
 use Rattle.text.specs.Number.{is_number}
 use Rattle.text.specs.Lines.{index_of, lines, remainder}
 use Rattle.page.specs.Page.{columns, page_of, page_code, page_out, number_text, block_text, number_in, block_in}
-use Rattle.listing.specs.SizeLaws.{room}
-use Rattle.demands.specs.Steps.{Offer, Turn, Entry, taken, turns, final, Recording, Numbered, Answered, Returned, WholeReturned, ReturnedOneQ, proved_units, proved_change, Sharper}
+use Rattle.demands.specs.Steps.{Offer, Turn, Entry, turns, final, Recording, Numbered, Answered, Returned, WholeReturned, ReturnedOneQ, proved_units, proved_change, Sharper}
 use Rattle.demands.specs.Chains.{calls, held}
 use Rattle.demands.specs.Stored.{Stored, StoredBlocks, StoredOnce, StoredReturned, StoredBack}
 use Rattle.demands.specs.StoredLists.{LoadOffer, load_turns, load_final, load_calls, load_held, as_turns, StoredLoads}

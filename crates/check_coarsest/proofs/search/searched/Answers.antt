@@ -1,7 +1,7 @@
-use Rattle.std.proofs.Common.{refl, sym, ◌∙◌, ◌<◌, arith}
+use Rattle.std.proofs.Common.{refl, sym, ◌∙◌, arith}
 use Rattle.arithmetic.specs.TestLaws.{is_T}
 use Rattle.step_search.specs.SearchLaws.{sure-is}
-use Rattle.step_search.specs.ProgressLaws.{Open, unfinished_is_open}
+use Rattle.step_search.specs.ProgressLaws.{unfinished_is_open}
 use Rattle.check_coarsest.proofs.search.searched.Goals as goal
 
 pub loop-trial-init : goal.loop-trial-init
