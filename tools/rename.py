@@ -277,6 +277,7 @@ def main():
                 with open(f, "w", encoding="utf-8") as out:
                     out.write(t)
     edits(names, write)
+    os.makedirs("tools", exist_ok=True)
     with open("tools/renamed.tsv", "w") if write else open(os.devnull, "w") as out:
         out.write("".join(f"{n}\t{x}\n" for n, x in sorted(names.items())))
     print(f"{len(names)} names, {count} files")

@@ -23,15 +23,15 @@ use Rattle.recording_calls.specs.Recordings.{recorded_causes, recorded_code, rec
 use Rattle.page.specs.Page.{page_of, page_causes, page_code, page_out}
 use Rattle.state_calls.specs.States as F
 use Rattle.state_calls.specs.StateLaws.{fresh_holds, fresh_long, same_code, same_out, same_stream, same_long}
-use Rattle.demands.proofs.ListingAnswerLaws.{listing-answers}
+use Rattle.demands.specs.ListingAnswerLaws.{listing-answers}
 use Rattle.demands.proofs.TableAnswerLaws.{table-answers}
 use Rattle.demands.proofs.LevelAnswerLaws.{quantise-answers, dequantise-answers, told-answers, tell-answers, report_answers, step_levels-answers, state_levels_answers, last_number}
 use Rattle.demands.proofs.ShareLaws.{share_answers, name-answers}
-use Rattle.demands.proofs.OrderAnswerLaws.{reorder_answers, number-answers, recording_share_answers, recording_name_answers}
-use Rattle.demands.proofs.FloatAnswerLaws.{floats-answers, ends_answers, pair_answers}
-use Rattle.demands.proofs.CoarseAnswerLaws.{coarsest-answers, find-answers, found_report_answers}
-use Rattle.demands.proofs.StepLaws.{code_other, refused_stream, refused_buffer}
-use Rattle.demands.proofs.CauseTestLaws.{counts, counts_not, ranges, ranges_not, sounds, sounds_not_n, sounds_not_tail, shapes_true, shapes_false, fits-true, fits_not, fits-other, fits_forged, negative, no_length_0, shape-negative, shape-large}
+use Rattle.demands.specs.OrderAnswerLaws.{reorder_answers, number-answers, recording_share_answers, recording_name_answers}
+use Rattle.demands.specs.FloatAnswerLaws.{floats-answers, ends_answers, pair_answers}
+use Rattle.demands.specs.CoarseAnswerLaws.{coarsest-answers, find-answers, found_report_answers}
+use Rattle.demands.specs.StepLaws.{code_other, refused_stream, refused_buffer}
+use Rattle.demands.specs.CauseTestLaws.{counts, counts_not, ranges, ranges_not, sounds, sounds_not_n, sounds_not_tail, shapes_true, shapes_false, fits-true, fits_not, fits-other, fits_forged, negative, no_length_0, shape-negative, shape-large}
 use Rattle.demands.specs.Answers.{Tabled, SoundTail, Fitting, AnalyseAnswers, FreshAnswers, StepAnswers, RecordedAnswers, PlayedAnswers, InnerAnswers, PageAnswers, StateFreshAnswers, StateStepAnswers}
 use Rattle.demands.specs.Demands.{Demand1}
 

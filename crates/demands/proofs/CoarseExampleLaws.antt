@@ -24,7 +24,7 @@ use Rattle.demands.proofs.AnswerLaws.{demand_1}
 use Rattle.demands.specs.Stored.{StoredOnce}
 use Rattle.demands.proofs.CoarseLaws.{passes_keeps, next-passes, found_on}
 use Rattle.demands.proofs.CoarseTableLaws.{stored_once, told_is}
-use Rattle.demands.proofs.CoarseAnswerLaws.{find-answers}
+use Rattle.demands.specs.CoarseAnswerLaws.{find-answers}
 use Rattle.demands.specs.Example.{knock}
 use Rattle.demands.proofs.ExampleLaws.{computed, answers, twelve, knock_recorded}
 use Rattle.demands.proofs.LevelExampleLaws.{ruled}

@@ -58,7 +58,7 @@ use Rattle.page.specs.PageLaws.{page_count, page_ended, page_long, byte_at, colu
 use Rattle.page.specs.AnswerLaws.{Paged, page_facts, page_taken}
 use Rattle.demands.proofs.MovedLaws.{levelled_on, restored_on, ruled_on}
 use Rattle.demands.proofs.ExplainLaws.{explained_on, explained_in}
-use Rattle.demands.proofs.StepLaws.{taken_stream, taken_buffer}
+use Rattle.demands.specs.StepLaws.{taken_stream, taken_buffer}
 use Rattle.demands.proofs.RecordingLaws.{windowed, by-direct, by-short, by-double}
 use Rattle.demands.specs.Steps.{Offer, Turn, answered, run, turns, Entry}
 use Rattle.demands.specs.Steps.Entry.{first, later}

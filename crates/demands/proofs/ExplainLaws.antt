@@ -29,9 +29,9 @@ use Rattle.share_calls.specs.ShareCalls.{answered_with, share_answer}
 use Rattle.share_calls.specs.ShareCallLaws.{Sizes, sizes}
 use Rattle.share_calls.specs.RecordingShares.{share_at, numbered_from, place_code, both_ranged, recording_share}
 use Rattle.share_calls.specs.RecordingShareLaws.{Placed, places, both_ranges}
-use Rattle.demands.proofs.StepLaws.{taken_stream, taken_buffer}
+use Rattle.demands.specs.StepLaws.{taken_stream, taken_buffer}
 use Rattle.demands.proofs.ShareLaws.{share_answers, taken-tests, taken_is}
-use Rattle.demands.proofs.OrderAnswerLaws as R
+use Rattle.demands.specs.OrderAnswerLaws as R
 use Rattle.demands.proofs.BackLaws.{left_at}
 use Rattle.demands.specs.Answers.{InRange}
 use Rattle.demands.specs.Demands.{Covering, ExplainedOn, ExplainedIn}

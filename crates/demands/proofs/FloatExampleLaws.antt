@@ -6,7 +6,7 @@ use Rattle.std.specs.Float.Ieee.{round, units, odd, size, span, climb}
 use Rattle.floats.specs.Floats.{negative, sixty_fourth, plus_zero, larger, smaller, picked, highest_of, lowest_of}
 use Rattle.float_calls.specs.declared.Ends.{Ends}
 use Rattle.float_calls.specs.FloatCalls.{block_causes, block_code, floats_code, floats_out, ends_causes, ends_code, ends_of, pair_code, pair_out}
-use Rattle.demands.proofs.FloatAnswerLaws.{pair_answers}
+use Rattle.demands.specs.FloatAnswerLaws.{pair_answers}
 use Rattle.demands.specs.FloatValues.{Exactly, float_at, FloatsOn, EndsOn}
 use Rattle.demands.proofs.FloatValueLaws.{floats_on, ends_on}
 use Rattle.demands.specs.Example.{minus}

@@ -28,10 +28,10 @@ use Rattle.steps.specs.Table.{digits, verdict}
 use Rattle.text.specs.Refusal.{refusal}
 use Rattle.table_report.specs.Report.{length_in, length_of, report_of}
 use Rattle.table_report.specs.ReportLaws.{of_some, no_length, turned_away, taken_report}
-use Rattle.demands.proofs.StepLaws.{code_other, sound_seven, last_stream}
-use Rattle.demands.proofs.LevelStepLaws.{levels-code, levels-step, brought_yes, levels_brought}
+use Rattle.demands.specs.StepLaws.{code_other, sound_seven, last_stream}
+use Rattle.demands.specs.LevelStepLaws.{levels-code, levels-step, brought_yes, levels_brought}
 use Rattle.demands.proofs.MovedLaws.{dequantised_facts, dequantised_is, always_taken}
-use Rattle.demands.proofs.CauseTestLaws.{ranges, ranges_not, sounds, sounds_not_n, sounds_not_tail, fits-true, fits_not, fits-other, fits_forged, negative, no_length_0, shape-negative, shape-large}
+use Rattle.demands.specs.CauseTestLaws.{ranges, ranges_not, sounds, sounds_not_n, sounds_not_tail, fits-true, fits_not, fits-other, fits_forged, negative, no_length_0, shape-negative, shape-large}
 use Rattle.demands.specs.Answers.{Tabled, Offered, Ruled, SoundTail, Fitting, QuantiseAnswers, DequantiseAnswers, ToldAnswers, RouteNumber, TellAnswers, Typed, ReportAnswers, StepLevelsAnswers, StateStepLevelsAnswers}
 use Rattle.demands.specs.Answers.RouteNumber.{direct, short, double}
 

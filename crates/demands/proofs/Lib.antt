@@ -1,4 +1,3 @@
-pub mod StepLaws
 pub mod RunLaws
 pub mod RefusalLaws
 pub mod RecordingLaws
@@ -8,17 +7,11 @@ pub mod ChainLaws
 pub mod BackLaws
 pub mod SparseLaws
 pub mod OrderLaws
-pub mod LevelStepLaws
 pub mod MovedLaws
 pub mod StoredLaws
-pub mod ListingAnswerLaws
-pub mod CauseTestLaws
 pub mod TableAnswerLaws
 pub mod LevelAnswerLaws
 pub mod ShareLaws
-pub mod OrderAnswerLaws
-pub mod CoarseAnswerLaws
-pub mod FloatAnswerLaws
 pub mod LoadLaws
 pub mod StoredListLaws
 pub mod AnswerLaws
@@ -29,7 +22,6 @@ pub mod UnchangedLaws
 pub mod CoarseLaws
 pub mod FloatValueLaws
 pub mod CoarseTableLaws
-pub mod TurnLaws
 pub mod ExampleLaws
 pub mod RecordingExampleLaws
 pub mod SparseExampleLaws

@@ -19,7 +19,7 @@ use Rattle.demands.specs.Steps.{Offer, Turn, Entry, answered, run, after, taken,
 use Rattle.demands.specs.Steps.Entry.{first, later}
 use Rattle.demands.proofs.RunLaws.{refused_stream, refused_buffer, taken_yes, taken_no}
 use Rattle.demands.proofs.TableAnswerLaws.{table_no_four, table_no_seven}
-use Rattle.demands.proofs.LevelStepLaws.{levels-step}
+use Rattle.demands.specs.LevelStepLaws.{levels-step}
 use Rattle.demands.specs.StoredLists.{Load, LoadOffer, step_by_load, output_by, load_answered, load_run, load_after, brought_by, bringing, as_turn, as_turns}
 use Rattle.demands.specs.StoredLists.Load.{spectrum, levels}
 

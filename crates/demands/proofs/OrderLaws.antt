@@ -23,8 +23,8 @@ use Rattle.page.specs.Page.{columns, page_of, page_causes, page_code, page_out}
 use Rattle.share_calls.specs.ShareCalls.{refused_with}
 use Rattle.share_calls.specs.RecordingShares.{share_at, place_causes, place_code, both_ranged, recording_share_code, recording_share, recording_name_code, recording_name_out}
 use Rattle.share_calls.specs.RecordingShareLaws.{places, placed_away, name_placed_away}
-use Rattle.demands.proofs.CauseTestLaws.{ranges, of_ranges}
-use Rattle.demands.proofs.OrderAnswerLaws.{reorder_answers}
+use Rattle.demands.specs.CauseTestLaws.{ranges, of_ranges}
+use Rattle.demands.specs.OrderAnswerLaws.{reorder_answers}
 use Rattle.demands.specs.Answers.{InRange}
 use Rattle.demands.specs.Demands.{Alike, EitherOrder}
 

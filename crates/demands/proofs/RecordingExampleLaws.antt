@@ -34,7 +34,7 @@ use Rattle.demands.proofs.UnchangedLaws.{unchanged_taken, unchanged_near, unchan
 use Rattle.demands.specs.Answers.{Shapes}
 use Rattle.demands.specs.Demands.{X, PlayedOn, Alike}
 use Rattle.demands.specs.Turned.{opposite}
-use Rattle.demands.proofs.TurnLaws.{sign_rule}
+use Rattle.demands.specs.TurnLaws.{sign_rule}
 use Rattle.demands.specs.Example.{minus, recording, routes, knock, room, whole, hops_room, knock_whole}
 use Rattle.demands.proofs.ExampleLaws.{computed, answers, twelve, is_sample, samples_of, recorded, knock_recorded}
 

@@ -7,7 +7,7 @@ use Rattle.std.proofs.Math.Decide.{ℕ_discrete}
 use Rattle.stream.specs.declared.Stream.{Stream}
 use Rattle.stream_calls.specs.Streams.{step_code, step, step_out}
 use Rattle.demands.specs.Steps.{Offer, Turn, answered, run, after, taken, offers_of}
-use Rattle.demands.proofs.StepLaws as L
+use Rattle.demands.specs.StepLaws as L
 use Rattle.demands.proofs.RunLaws.{code, run-taken, run-refused, after-refused}
 
 -- ---- the next step: its answer and its buffer are those of the stream that the refused step was handed

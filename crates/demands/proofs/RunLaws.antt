@@ -7,7 +7,7 @@ use Rattle.stream.specs.declared.Stream.{Stream}
 use Rattle.stream_calls.specs.Streams.{step_code, step}
 use Rattle.demands.specs.Steps.{Offer, Turn, answered, run, after, taken, offers_of, Entry}
 use Rattle.demands.specs.Steps.Entry.{first, later}
-use Rattle.demands.proofs.StepLaws as L
+use Rattle.demands.specs.StepLaws as L
 
 -- ---- of one step
 module _ (s : Stream) (o : Offer) where

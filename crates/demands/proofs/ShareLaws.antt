@@ -14,8 +14,8 @@ use Rattle.shares.specs.Shares.{largest_share}
 use Rattle.share_calls.specs.declared.Share.{Share}
 use Rattle.share_calls.specs.ShareCalls.{size_causes, size_code, ranged, answered_with, refused_with, share_answer, name_code, name_out, numbers_of}
 use Rattle.share_calls.specs.ShareCallLaws.{sized_away, out_of_range, share_taken, name_sized_away, name_long, name_out_of_range, name-taken}
-use Rattle.demands.proofs.StepLaws.{code_other}
-use Rattle.demands.proofs.CauseTestLaws.{ranges, of_ranges}
+use Rattle.demands.specs.StepLaws.{code_other}
+use Rattle.demands.specs.CauseTestLaws.{ranges, of_ranges}
 use Rattle.demands.specs.Answers.{Tabled, Sized, InRanges, ShareAnswers, NameAnswers}
 
 -- ---- the numbers

@@ -24,7 +24,7 @@ use Rattle.demands.specs.Steps.Entry.{first, later}
 use Rattle.demands.proofs.RunLaws.{no_entry}
 use Rattle.demands.proofs.StreamLaws.{fresh-is}
 use Rattle.demands.proofs.ThereAndBackLaws.{every_list, there_and_back}
-use Rattle.demands.proofs.LevelStepLaws.{levels_brought}
+use Rattle.demands.specs.LevelStepLaws.{levels_brought}
 use Rattle.demands.proofs.LevelAnswerLaws.{state_levels_answers}
 use Rattle.demands.proofs.MovedLaws.{quantised_facts, dequantise_takes, dequantised_is}
 use Rattle.demands.specs.Stored.{StoredBlock, Stored, StoredReturned}

@@ -10,7 +10,7 @@ use Rattle.stream.specs.Steps.{next}
 use Rattle.stream.specs.NextLaws.{Fine, fine_fresh, fine_next}
 use Rattle.stream_calls.specs.Streams.{fresh, sound, step_code}
 use Rattle.demands.specs.Steps.{Offer, answered, after}
-use Rattle.demands.proofs.StepLaws.{sound_four, sound_of, taken_stream, taken-size}
+use Rattle.demands.specs.StepLaws.{sound_four, sound_of, taken_stream, taken-size}
 use Rattle.demands.proofs.RunLaws.{code, refused_stream}
 
 module _ (N : ℕ) (t : T (tabled N)) where

@@ -17,7 +17,7 @@ use Rattle.stream_calls.specs.Streams.{fresh}
 use Rattle.stream_calls.specs.StreamLaws.{step-number, step_left}
 use Rattle.demands.specs.Steps.{Offer, Turn, answered, run, after, taken, turns, final, Entry, Recording, Brought, Numbered, proved_change, Answered, Returned, WholeReturned, Restored, ReturnedOneQ, Sharper}
 use Rattle.demands.specs.Steps.Entry.{first, later}
-use Rattle.demands.proofs.StepLaws.{taken_buffer, taken_stream, sound_seven, only_seven}
+use Rattle.demands.specs.StepLaws.{taken_buffer, taken_stream, sound_seven, only_seven}
 use Rattle.demands.proofs.RunLaws.{code, answered-code, refused_stream, refused_buffer, taken_yes, taken_no, run-taken, run-refused, after-refused, no_entry, entry_at, entry-taken}
 use Rattle.demands.proofs.RecordingLaws.{overlapped, hop_of, back-near, back-same, near_asked, restored}
 use Rattle.stream.specs.NextLaws.{Fine, hop_long, hop_entry, next-at}

@@ -7,7 +7,7 @@ use Rattle.checks.specs.Causes.First.{none, stop, pass}
 use Rattle.checks.specs.CauseLaws.{first_is, same, differs, beside}
 use Rattle.float_calls.specs.FloatCalls.{block_causes, block_code, ends_causes, ends_code, pair_of, no_pair, ends_of, pair_code, pair_out}
 use Rattle.float_calls.specs.FloatCallLaws.{block-answer, block_facts, floats-refused, pair_refused, ends_taken, pair_ends}
-use Rattle.demands.proofs.CauseTestLaws.{ranges, ranges_not}
+use Rattle.demands.specs.CauseTestLaws.{ranges, ranges_not}
 use Rattle.demands.specs.Answers.{Tabled, InRange, FloatsAnswers, EndsAnswers, PairAnswers}
 
 -- ---- with room for floats

@@ -15,7 +15,7 @@ use Rattle.checks.specs.LimitLaws.{range_small, abs_within, counted-some, counte
 use Rattle.stream_calls.specs.Streams.{sound, fits}
 use Rattle.stream_calls.specs.StreamLaws.{sound-tabled, sound-bounded}
 use Rattle.state_calls.specs.States as F
-use Rattle.demands.proofs.StepLaws.{sound_of}
+use Rattle.demands.specs.StepLaws.{sound_of}
 use Rattle.demands.specs.Answers.{Tabled, Counted, InRange, SoundTail, Shapes}
 
 module _ (H : ℕ) where

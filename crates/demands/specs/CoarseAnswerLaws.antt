@@ -26,9 +26,9 @@ use Rattle.listing.specs.BankLaws.{recording_long}
 use Rattle.listing.specs.Listing.{recording, listing}
 use Rattle.coarsest_report.specs.Report.{is_whole, whole_of, distance_of, budget_of, found_lines, answer_of, report_of}
 use Rattle.coarsest_report.specs.ReportLaws.{by_sign, whole-number, whole_sign, none_typed, some_typed, listing-refused, listing-taken, answer-refused, answer-found}
-use Rattle.demands.proofs.StepLaws.{code_other}
-use Rattle.demands.proofs.CauseTestLaws.{counts, counts_not}
-use Rattle.demands.proofs.ListingAnswerLaws.{taken-verdict, verdict-listed}
+use Rattle.demands.specs.StepLaws.{code_other}
+use Rattle.demands.specs.CauseTestLaws.{counts, counts_not}
+use Rattle.demands.specs.ListingAnswerLaws.{taken-verdict, verdict-listed}
 use Rattle.demands.specs.Answers.{Counted, CoarsestAnswers, FindAnswers, Whole, Listed, FoundReportAnswers}
 
 -- ---- the call by value

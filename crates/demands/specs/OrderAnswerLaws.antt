@@ -16,8 +16,8 @@ use Rattle.share_calls.specs.declared.Share.{Share}
 use Rattle.share_calls.specs.ShareCalls.{answered_with, refused_with, numbers_of}
 use Rattle.share_calls.specs.RecordingShares.{share_at, numbered_from, place_causes, place_code, both_ranged, recording_share, recording_name_code, recording_name_out}
 use Rattle.share_calls.specs.RecordingShareLaws.{placed_away, out_of_range, share_taken, name_placed_away, name_long, name_out_of_range, name-taken}
-use Rattle.demands.proofs.StepLaws.{code_other}
-use Rattle.demands.proofs.CauseTestLaws.{counts, counts_not, ranges, of_ranges, ranges_not}
+use Rattle.demands.specs.StepLaws.{code_other}
+use Rattle.demands.specs.CauseTestLaws.{counts, counts_not, ranges, of_ranges, ranges_not}
 use Rattle.demands.specs.Answers.{Tabled, Counted, InRange, ReorderAnswers, NumberAnswers, PlacedIn, RecordingShareAnswers, RecordingNameAnswers}
 
 pub reorder_answers : (to : Order) (N H : ℕ) (x out : List ℤ) → ReorderAnswers to N H x out
