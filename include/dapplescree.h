@@ -66,10 +66,9 @@
  * its arguments, so calls on different buffers may run at the same time.
  *
  * No call allocates, and none copies a recording: by frequency, the coefficients of a few blocks at a time are gathered or put in their places, and a
- * step is tried on a recording block by block. What a call takes of the stack is not proved. With an older kit it was measured (bench/run stack;
- * docs/SPEED.md names the kit): it didn't grow with a recording, and was below 6 KiB for n up to 72, below 7 KiB by the double route and for n = 108,
- * and below 18 KiB for n = 216; of a step on levels, of the synthesis of a recording and of the coarsest step 1 KiB more, of the analysis of a
- * recording 4 KiB more.
+ * step is tried on a recording block by block. What a call takes of the stack is measured (bench/run stack) and not proved, and doesn't grow with a
+ * recording: below 6 KiB for n up to 72, below 7 KiB by the double route and for n = 108, and below 18 KiB for n = 216; of the synthesis of a
+ * recording and of the coarsest step 1 KiB more, of a step on levels 1,100 bytes more, of the analysis of a recording 4 KiB more.
  *
  * These are promises for every value of every argument, under what C cannot check: each pointer is not null, also where its length is 0, is
  * aligned, and points to as many entries as the length that follows it says; a buffer that a call writes overlaps no other of the same call,
