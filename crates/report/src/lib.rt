@@ -1,6 +1,6 @@
 // What the test programs share: what they print, and in `noise` the numbers that they make up. Fields are parted by commas, lines ended by
 // a line feed. What is written is compared with stored output and not proved: no contract can speak of it. The error of a write is handed on, and
-// no other is made; no function here is handed anything that it could change.
+// no other is made; no function that prints is handed anything that it could change.
 #![tactic(auto)]
 
 pub mod noise;
