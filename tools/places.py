@@ -106,8 +106,8 @@ def alike():
 
 say("2b functions whose bodies are the same but for digits", alike())
 say("3a loops by while and loop", lines(r"^\s*(while|loop)\b"))
-say("3b loops over a range of numbers", lines(r"^\s*for \w+ in [^ ]*[^.]\.\.[^.]"))
-say("3c other loops by for", ((n, l, w) for n, l, w in lines(r"^\s*for ") if not re.search(r"for \w+ in [^ ]*[^.]\.\.[^.]", w)))
+say("3b loops over a range of numbers", lines(r"^\s*for \w+ in [^ \[]*[^.\[]\.\.[^.]"))
+say("3c other loops by for", ((n, l, w) for n, l, w in lines(r"^\s*for ") if not re.search(r"for \w+ in [^ \[]*[^.\[]\.\.[^.]", w)))
 say("4 copying, comparing, clamping, flags and conversion by hand", ((n, l, f) for n, l, f, b in ALL if re.fullmatch(r"larger|smaller|larger_of_two|apart|copy|clear|shift|fill|flag|numbered|magnitude|limited|clipped|size|mark|put_blanks|put_text|put_byte|shape_in|number_in|at_most_a_tile|one_less|is_digit|all_digits|find|abs|show_\w+", f)))
 say("5a functions that take left and right", ((n, l, f) for n, l, f, b in ALL if "left: u32" in head(b) and "right: u32" in head(b)))
 say("5b functions that take four slices of two blocks", ((n, l, f) for n, l, f, b in ALL if "first_changed:" in head(b)))
