@@ -70,8 +70,10 @@ def say(point, places):
 ALL = list(functions())
 
 say("1a flags and codes beside a value (fields code, ok, any)", lines(r"^\s*pub (code|ok|any): "))
-say("1b functions that answer a refusal by its number", ((n, l, head(b)) for n, l, f, b in ALL if re.search(r"-> (u32|Verdict|Share|Ends|Coarsest|Told|Made|Stepped|TableRead)\b", head(b)) and re.search(r"\breturn (\d+|code|refused\(|read\.code)|code: \d|\bcode\(", b)))
-say("1c kinds by number (parameters and fields left, right, shape, order, number)", ((n, l, w) for n, l, w in lines(r"\b(left|right|shape|order|number): u32\b")))
+ANSWER = r"-> (u32|Verdict|Share|Ends|Coarsest|Told|Made|Stepped|TableRead|Brought)\b"
+PROMISE = r"ensures [^\n]*(code|ends_of|told |share|coarsest_answer|erdict|refused|_fault|fresh n|step s|IsRead|IsBrought|tell_number)"
+say("1b functions that answer a refusal by its number", ((n, l, head(b)) for n, l, f, b in ALL if re.search(ANSWER, head(b)) and re.search(PROMISE, b)))
+say("1c kinds by number (parameters and fields left, right, shape, order; a route's number)", ((n, l, w) for n, l, w in lines(r"\b(left|right|shape|order): u32\b|fn (tell|dapplescree_told_distance)\(number: u32")))
 
 
 def twins():

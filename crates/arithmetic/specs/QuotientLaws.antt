@@ -65,6 +65,9 @@ last-quarter m t =
     (λ a b c d e. absurd (e refl))
     (λ a b c d e. refl)
 
+-- for the search
+pub ruleset quarter_laws = (last-quarter)
+
 -- a length is four times its quarter, and 12 to 216
 module _ (n : ℕ) (t : T (splits n)) where
   pub splits_four : (n % 4 ≡ 0) × T (quarters (n / 4))

@@ -1,5 +1,5 @@
 // Rounding and clamping of signed sums. The laws of whole numbers that every other crate cites are in specs/.
-// No function here is a public call: `transform`, `split`, `stream` and `text` call them, each under its requires.
+// No function here is a public call: `transform`, `split`, `stream` and `steps` call them, each under its requires.
 #![tactic(auto)]
 
 ghost use Rattle.std.specs.Prelude.{◌≡◌, ◌+◌, ◌≤◌, ◌<◌, ◌*◌, ◌/◌, ◌^◌, T, pos, neg_ℤ, nat_abs, ◌≤ℤ◌, ◌<ℤ◌};
@@ -8,7 +8,6 @@ ghost use Rattle.std.specs.Int.{w64};
 ghost use Rattle.std.proofs.Common.{SFits};
 ghost use Rattle.arithmetic.specs.Rounding.{floor, rnd, clamp};
 ghost use Rattle.arithmetic.specs.RoundingLaws.{under};
-ghost use Rattle.arithmetic.specs.SampleLaws.{limited};
 ghost use Rattle.arithmetic.specs.QuotientLaws.{quarters, splits};
 
 // The floor of a / 2^k, which fits.
@@ -20,6 +19,7 @@ fn shifted(a: i64, k: u32) -> i64
 }
 
 // What is added to a number before it is rounded, so that an exact half goes away from zero: -1 below zero, and 0 else. The shift leaves only the sign.
+#[tactic(auto, using(crate::specs::RoundingLaws::under_shr))]
 fn tilt(a: i64) -> i64
     ensures { result ≡ under a }
 {
@@ -34,43 +34,29 @@ pub fn rnd_shift(a: i64, k: u32) -> i64
     shifted(a + tilt(a) + (1i64 << (k - 1)), k)
 }
 
-// b, limited to least..=most.
-fn limited(b: i32, least: i32, most: i32) -> i32
-    ensures { result ≡ limited least most b }
-{
-    if b < least {
-        return least;
-    }
-    if most < b {
-        return most;
-    }
-    b
-}
-
 // The next whole number above 2^32 / m, for m = 3, 9, 27 or twice one of them.
+#[tactic(auto, using(crate::specs::QuotientLaws::quarter_laws))]
 fn reciprocal(m: usize) -> u64
     requires { T (quarters m) }
     ensures { result ≡ 2 ^ 32 / m + 1 }
 {
     if m == 3 {
-        return 1431655766;
+        1431655766
+    } else if m == 6 {
+        715827883
+    } else if m == 9 {
+        477218589
+    } else if m == 18 {
+        238609295
+    } else if m == 27 {
+        159072863
+    } else {
+        79536432
     }
-    if m == 6 {
-        return 715827883;
-    }
-    if m == 9 {
-        return 477218589;
-    }
-    if m == 18 {
-        return 238609295;
-    }
-    if m == 27 {
-        return 159072863;
-    }
-    79536432
 }
 
 // r / m, for the numbers of which it is below 65,536: by a multiplication, and a division by 2^32.
+#[tactic(auto, using(crate::specs::QuotientLaws::over_is))]
 fn over(r: u32, m: usize) -> u32
     requires { T (quarters m) × (r < 65536 * m) }
     ensures { result ≡ r / m }
@@ -94,10 +80,11 @@ fn clamped(b: i32, m: usize) -> i16
     ensures { result ≡ clamp (floor b m) }
 {
     let edge = (32768 * m) as i32;
-    quotient(limited(b, -edge, edge - 1), m)
+    quotient(b.clamp(-edge, edge - 1), m)
 }
 
 // The floor of a / 2^32: its upper word.
+#[tactic(auto, using(crate::specs::RoundingLaws::floor_shr))]
 fn upper(a: i64) -> i32
     ensures { result ≡ floor a (2 ^ 32) }
 {
@@ -117,9 +104,5 @@ pub fn sample(a: i64, n: usize) -> i16
 pub fn size(v: i64) -> u64
     ensures { result ≡ nat_abs v }
 {
-    if v < 0 {
-        let below = -(v + 1);
-        return below as u64 + 1;
-    }
-    v as u64
+    v.unsigned_abs()
 }

@@ -3,30 +3,30 @@
 #![tactic(auto)]
 
 ghost use Rattle.std.specs.Prelude.{◌≡◌};
+ghost use Rattle.refusals.specs.Answers.{code_of};
 ghost use Rattle.block_calls.specs.Analysis.{analyse_code, analyse_out};
 
 use analysis::Route;
+use checks::{Joints, Refusal, check_route, check_shapes, check_size};
 
-// The coefficients of one block of n samples, by the route named, with joints of the shapes left and right: 0 is long, 1 short. 1: the route is not offered
-// at n. 8: a shape is above 1. 2: a buffer's length is not the stated one. Refused, `out` is left alone.
-pub fn analyse(route: Route, n: usize, left: u32, right: u32, x: &[i16], out: &mut [i32]) -> u32
-    ensures value { result ≡ analyse_code route n left right x.now out.old }
-    ensures out_after { out.new ≡ analyse_out route n left right x.now out.old }
+/// The n / 2 coefficients of one block of n samples, by the route named, with these joints (document 01, 'Analysis' and 'Short route'). Length (1): the route
+/// is not offered at n. Shape (8): a joint's is above 1. Size (2): a buffer's length is not the stated one. The first of these is told. Refused, `out` is left
+/// alone.
+#[tactic(auto, unfolding(crate::specs::Analysis::analyse_code, crate::specs::Analysis::analyse_causes, checks::specs::Causes::first_cause, crate::specs::Analysis::analyse_out))]
+pub fn analyse(
+    route: Route,
+    n: usize,
+    joints: Joints,
+    x: &[i16],
+    out: &mut [i32],
+) -> Result<(), Refusal>
+    ensures code { code_of result ≡ analyse_code route n joints.left joints.right x.now out.old }
+    ensures out_after { out.new ≡ analyse_out route n joints.left joints.right x.now out.old }
 {
-    let shapes = checks::are_shapes(left, right);
-    if !checks::is_offered(route, n) {
-        return 1;
-    }
-    if !shapes {
-        return 8;
-    }
-    if x.len() != n {
-        return 2;
-    }
-    let m = n / 2;
-    if out.len() != m {
-        return 2;
-    }
-    analysis::analyse_block(route, n, left, right, x, out);
-    0
+    check_route(route, n)?;
+    check_shapes(joints)?;
+    check_size(x.len(), n)?;
+    check_size(out.len(), n / 2)?;
+    analysis::analyse_block(route, n, joints, x, out);
+    Ok(())
 }

@@ -1,5 +1,6 @@
 // The calls for C: a slice crosses as a pointer and a length, a stream as a state. Each hands on to the bank's own call.
 // No call has a requires: any numbers and any lengths may be handed in. include/dapplescree.h says the same in C's words.
+// What is refused, a route, an order and a shape is a number here, and each slice and shape an argument of its own: the C interface.
 #![tactic(auto)]
 
 ghost use Rattle.std.specs.Prelude.{◌≡◌};
@@ -13,9 +14,10 @@ ghost use Rattle.share_calls.specs.ShareCalls.{name_code, name_out};
 ghost use Rattle.share_calls.specs.RecordingShares.{recording_name_code, recording_name_out};
 ghost use Rattle.coarsest_calls.specs.CoarsestCalls.{find_code, find_out};
 ghost use Rattle.float_calls.specs.FloatCalls.{floats_code, floats_out, pair_code, pair_out};
-ghost use Rattle.state_calls.specs.States.{fresh_code, fresh_state, step_code, step_state, step_out};
+ghost use Rattle.stream_calls.specs.States.{fresh_code, fresh_state, step_code, step_state, step_out};
 
 use analysis::Route;
+use filter_bank::{Change, Joints, Offer, code};
 
 // One block by the direct route: `filter_bank::analyse`.
 #[unsafe(no_mangle)]
@@ -29,7 +31,8 @@ pub extern "C" fn dapplescree_analyse_direct(
     ensures value { result ≡ analyse_code Direct n left right samples.now coefficients.old }
     ensures coefficients_after { coefficients.new ≡ analyse_out Direct n left right samples.now coefficients.old }
 {
-    filter_bank::analyse(Route::Direct, n, left, right, samples, coefficients)
+    let joints = Joints { left, right };
+    code(filter_bank::analyse(Route::Direct, n, joints, samples, coefficients))
 }
 
 // One block by the short route.
@@ -44,7 +47,8 @@ pub extern "C" fn dapplescree_analyse_short(
     ensures value { result ≡ analyse_code Short n left right samples.now coefficients.old }
     ensures coefficients_after { coefficients.new ≡ analyse_out Short n left right samples.now coefficients.old }
 {
-    filter_bank::analyse(Route::Short, n, left, right, samples, coefficients)
+    let joints = Joints { left, right };
+    code(filter_bank::analyse(Route::Short, n, joints, samples, coefficients))
 }
 
 // One block by the double route.
@@ -59,7 +63,8 @@ pub extern "C" fn dapplescree_analyse_double(
     ensures value { result ≡ analyse_code Double n left right samples.now coefficients.old }
     ensures coefficients_after { coefficients.new ≡ analyse_out Double n left right samples.now coefficients.old }
 {
-    filter_bank::analyse(Route::Double, n, left, right, samples, coefficients)
+    let joints = Joints { left, right };
+    code(filter_bank::analyse(Route::Double, n, joints, samples, coefficients))
 }
 
 // A fresh stream, in a state: `filter_bank::fresh_in_place`.
@@ -68,7 +73,7 @@ pub extern "C" fn dapplescree_stream_fresh(n: usize, state: &mut [i64]) -> u32
     ensures value { result ≡ fresh_code n state.old }
     ensures state_after { state.new ≡ fresh_state n state.old }
 {
-    filter_bank::fresh_in_place(n, state)
+    code(filter_bank::fresh_in_place(n, state))
 }
 
 // One step on the stream that a state holds: `filter_bank::step_in_place`.
@@ -85,7 +90,9 @@ pub extern "C" fn dapplescree_stream_step(
     ensures state_after { state.new ≡ step_state state.old number left right coefficients.now hop.old }
     ensures hop_after { hop.new ≡ step_out state.old number left right coefficients.now hop.old }
 {
-    filter_bank::step_in_place(state, number, left, right, coefficients, hop)
+    let joints = Joints { left, right };
+    let offer = Offer { number, joints };
+    code(filter_bank::step_in_place(state, offer, coefficients, hop))
 }
 
 // A whole recording by the direct route: `filter_bank::analyse_recording`. An order is a number here, 0 by block and 1 by frequency; any other is answered as no hops are.
@@ -102,7 +109,7 @@ pub extern "C" fn dapplescree_analyse_recording_direct(
 {
     let by = orders::numbered(order);
     let count = orders::hops_in(order, hops);
-    filter_bank::analyse_recording(Route::Direct, by, n, count, samples, coefficients)
+    code(filter_bank::analyse_recording(Route::Direct, by, n, count, samples, coefficients))
 }
 
 // A whole recording by the short route.
@@ -119,7 +126,7 @@ pub extern "C" fn dapplescree_analyse_recording_short(
 {
     let by = orders::numbered(order);
     let count = orders::hops_in(order, hops);
-    filter_bank::analyse_recording(Route::Short, by, n, count, samples, coefficients)
+    code(filter_bank::analyse_recording(Route::Short, by, n, count, samples, coefficients))
 }
 
 // A whole recording by the double route.
@@ -136,7 +143,7 @@ pub extern "C" fn dapplescree_analyse_recording_double(
 {
     let by = orders::numbered(order);
     let count = orders::hops_in(order, hops);
-    filter_bank::analyse_recording(Route::Double, by, n, count, samples, coefficients)
+    code(filter_bank::analyse_recording(Route::Double, by, n, count, samples, coefficients))
 }
 
 // A whole recording's samples: `filter_bank::synthesise_recording`.
@@ -153,7 +160,7 @@ pub extern "C" fn dapplescree_synthesise_recording(
 {
     let by = orders::numbered(order);
     let count = orders::hops_in(order, hops);
-    filter_bank::synthesise_recording(by, n, count, coefficients, samples)
+    code(filter_bank::synthesise_recording(by, n, count, coefficients, samples))
 }
 
 // A recording's coefficients as a printed page: `page::page`. `bytes` is the header's `page`, which is a crate's name here.
@@ -170,7 +177,7 @@ pub extern "C" fn dapplescree_page(
 {
     let by = orders::numbered(order);
     let count = orders::hops_in(order, hops);
-    page::page(by, n, count, coefficients, bytes)
+    code(page::page(by, n, count, coefficients, bytes))
 }
 
 // A whole recording's coefficients in the order `to`, from the other one: `filter_bank::reorder`.
@@ -187,7 +194,7 @@ pub extern "C" fn dapplescree_reorder(
 {
     let by = orders::numbered(to);
     let count = orders::hops_in(to, hops);
-    filter_bank::reorder(by, n, count, coefficients, reordered)
+    code(filter_bank::reorder(by, n, count, coefficients, reordered))
 }
 
 // The levels of a block's coefficients by a step table: `filter_bank::quantise`.
@@ -201,7 +208,7 @@ pub extern "C" fn dapplescree_quantise(
     ensures value { result ≡ quantise_code n table.now coefficients.now levels.old }
     ensures levels_after { levels.new ≡ quantise_out n table.now coefficients.now levels.old }
 {
-    filter_bank::quantise(n, table, coefficients, levels)
+    code(filter_bank::quantise(n, table, coefficients, levels))
 }
 
 // The coefficients that levels come back as: `filter_bank::dequantise`.
@@ -215,7 +222,7 @@ pub extern "C" fn dapplescree_dequantise(
     ensures value { result ≡ dequantise_code n table.now levels.now coefficients.old }
     ensures coefficients_after { coefficients.new ≡ dequantise_out n table.now levels.now coefficients.old }
 {
-    filter_bank::dequantise(n, table, levels, coefficients)
+    code(filter_bank::dequantise(n, table, levels, coefficients))
 }
 
 // The distance that a step table tells, by a route's number: `filter_bank::tell`.
@@ -229,7 +236,7 @@ pub extern "C" fn dapplescree_told_distance(
     ensures value { result ≡ tell_number route n table.now distance.old }
     ensures distance_after { distance.new ≡ tell_number_out route n table.now distance.old }
 {
-    filter_bank::tell(route, n, table, distance)
+    code(filter_bank::tell(route, n, table, distance))
 }
 
 // One step on a block's levels, in a state: `filter_bank::step_levels_in_place`.
@@ -247,7 +254,9 @@ pub extern "C" fn dapplescree_stream_step_levels(
     ensures state_after { state.new ≡ state_after state.old number left right table.now levels.now hop.old }
     ensures hop_after { hop.new ≡ state_out state.old number left right table.now levels.now hop.old }
 {
-    filter_bank::step_levels_in_place(state, number, left, right, table, levels, hop)
+    let joints = Joints { left, right };
+    let offer = Offer { number, joints };
+    code(filter_bank::step_levels_in_place(state, offer, table, levels, hop))
 }
 
 // The coefficient with the largest share of what moved a sample: `filter_bank::name_share`.
@@ -265,16 +274,15 @@ pub extern "C" fn dapplescree_largest_share(
     ensures value { result ≡ name_code n shape first.now first_changed.now second.now second_changed.now place named.old }
     ensures named_after { named.new ≡ name_out n shape first.now first_changed.now second.now second_changed.now place named.old }
 {
-    filter_bank::name_share(
-        n,
-        shape,
-        first,
-        first_changed,
-        second,
-        second_changed,
-        place,
-        named,
-    )
+    let first = Change {
+        original: first,
+        changed: first_changed,
+    };
+    let second = Change {
+        original: second,
+        changed: second_changed,
+    };
+    code(filter_bank::name_share(n, shape, first, second, place, named))
 }
 
 // Which coefficient moved a sample of a recording: `filter_bank::name_share_recording`.
@@ -294,7 +302,8 @@ pub extern "C" fn dapplescree_largest_share_recording(
 {
     let by = orders::numbered(order);
     let count = orders::hops_in(order, hops);
-    filter_bank::name_share_recording(by, n, count, original, changed, hop, place, named)
+    let change = Change { original, changed };
+    code(filter_bank::name_share_recording(by, n, count, change, hop, place, named))
 }
 
 // The coarsest step for a recording: `filter_bank::find_step`.
@@ -310,7 +319,7 @@ pub extern "C" fn dapplescree_coarsest_step(
     ensures value { result ≡ find_code n hops samples.now allowed found.old }
     ensures found_after { found.new ≡ find_out n hops samples.now allowed budget found.old }
 {
-    filter_bank::find_step(n, hops, samples, allowed, budget, found)
+    code(filter_bank::find_step(n, hops, samples, allowed, budget, found))
 }
 
 // The coefficients of a block as floats: `filter_bank::floats`.
@@ -319,7 +328,7 @@ pub extern "C" fn dapplescree_floats(n: usize, coefficients: &[i32], floats: &mu
     ensures value { result ≡ floats_code n coefficients.now floats.old }
     ensures floats_after { floats.new ≡ floats_out n coefficients.now floats.old }
 {
-    filter_bank::floats(n, coefficients, floats)
+    code(filter_bank::floats(n, coefficients, floats))
 }
 
 // The highest and the lowest coefficient of a block: `filter_bank::put_ends`.
@@ -332,5 +341,5 @@ pub extern "C" fn dapplescree_highest_lowest(
     ensures value { result ≡ pair_code n coefficients.now pair.old }
     ensures pair_after { pair.new ≡ pair_out n coefficients.now pair.old }
 {
-    filter_bank::put_ends(n, coefficients, pair)
+    code(filter_bank::put_ends(n, coefficients, pair))
 }

@@ -1,254 +1,178 @@
 // What the command prints: `report` and `is_budget` on bytes.
-ghost use Rattle.std.specs.Prelude.{◌≡◌, ◌≤◌, length};
-
+use report::buffers::first;
+use report::sum_bytes;
 use std::io;
 
-// Room for one byte more than a listing may have.
-const INPUT: usize = 65537;
+// The most bytes of a listing.
+const MOST: usize = 65536;
 
-fn room() -> [u8; INPUT]
-    ensures { length result ≡ 65537 }
-{
-    [0; INPUT]
-}
+// A listing of three hops.
+const LISTING: &[u8] = b"12\n0,0,0,0,0,0\n7,-8,32767,-32768,1,0\n5,5,5,5,5,5\n";
 
-fn show_report(rt: &impl Print, distance: &[u8], budget: &[u8], input: &[u8]) -> io::Result<()> {
-    let mut out = [165; coarsest_report::ROOM];
-    let end = coarsest_report::report(distance, budget, input, &mut out);
-    report::word(rt, &out[..end])
-}
+// Distances as they are typed; then such as are too large, and bytes that are none.
+const DISTANCES: [&[u8]; 27] = [
+    b"0",
+    b"1",
+    b"2",
+    b"4",
+    b"9",
+    b"10",
+    b"31",
+    b"32",
+    b"33",
+    b"320",
+    b"65536",
+    b"99999",
+    b"100000",
+    b"4294967296",
+    b"-1",
+    b"-0",
+    b"00",
+    b"032",
+    b"+1",
+    b" 1",
+    b"1 ",
+    b"1\n",
+    b"1\x00",
+    b"1.0",
+    b"-",
+    b"x",
+    b"",
+];
 
-fn flag(yes: bool) -> usize {
-    if yes {
-        return 1;
-    }
-    0
-}
+// Budgets as they are typed; then bytes that are none: by them no trial is made.
+const BUDGETS: [&[u8]; 25] = [
+    b"2",
+    b"10",
+    b"900",
+    b"1009",
+    b"65536",
+    b"99999",
+    b"100000",
+    b"4294967296",
+    b"100000000000000000",
+    b"1000000000000000000",
+    b"9999999999999999999",
+    b"18446744073709551617",
+    b"-1",
+    b"-0",
+    b"00",
+    b"01",
+    b"+1",
+    b" 1",
+    b"1 ",
+    b"1\n",
+    b"1\x00",
+    b"1e3",
+    b"-",
+    b"x",
+    b"",
+];
 
-fn show_bytes(rt: &impl Print, bytes: &[u8]) -> io::Result<()> {
-    report::count(rt, bytes.len())?;
-    report::count(rt, report::sum_bytes(bytes) as usize)
-}
+// Listings that `round_trip` refuses: whatever else is typed, that number and that line are printed.
+const REFUSED: [&[u8]; 14] = [
+    b"",
+    b"12",
+    b"012\n",
+    b"11\n",
+    b"0\n",
+    b"144\n0,0,0,0,0,0\n",
+    b"12\n\n",
+    b"12\n1,2,3,4,5\n",
+    b"12\n1,2,3,4,5,6,7\n",
+    b"12\n1,2,3,4,5,6\n1,2,3,4,5,32768\n",
+    b"12\n1,2,3,4,5,6\n-32769,2,3,4,5,6\n",
+    b"12\n1,2,3,4,5,6\n1,2,3,4,5,6\n1,2,x,4,5,6\n",
+    b"12\n1,2,3,4,5,6",
+    b"\xff",
+];
+
+// Listings of no hops.
+const EMPTY: [&[u8]; 6] = [b"12\n", b"24\n", b"36\n", b"72\n", b"108\n", b"216\n"];
 
 // What is typed and the listing, by their lengths and their sums, whether each that is typed is a budget, and what is printed.
 fn printed(rt: &impl Print, distance: &[u8], budget: &[u8], input: &[u8]) -> io::Result<()> {
-    report::word(rt, b"typed")?;
-    show_bytes(rt, distance)?;
-    report::count(rt, flag(coarsest_report::is_budget(distance)))?;
-    show_bytes(rt, budget)?;
-    report::count(rt, flag(coarsest_report::is_budget(budget)))?;
-    show_bytes(rt, input)?;
-    report::end(rt)?;
-    show_report(rt, distance, budget, input)
+    print!(rt; "typed")?;
+    for typed in [distance, budget] {
+        let is_budget = u32::from(coarsest_report::is_budget(typed));
+        print!(rt; ",{},{},{is_budget}", typed.len(), sum_bytes(typed))?;
+    }
+    println!(rt; ",{},{}", input.len(), sum_bytes(input))?;
+    let mut out = [165; coarsest_report::ROOM];
+    let end = coarsest_report::report(distance, budget, input, &mut out);
+    rt.write_all(first(&out, end))
 }
 
-fn typed(rt: &impl Print, distance: &[u8], budget: &[u8]) -> io::Result<()> {
-    printed(
-        rt,
-        distance,
-        budget,
-        b"12\n0,0,0,0,0,0\n7,-8,32767,-32768,1,0\n5,5,5,5,5,5\n",
-    )
-}
-
-// A distance as it is typed.
-fn with_budgets(rt: &impl Print, distance: &[u8]) -> io::Result<()> {
-    typed(rt, distance, b"0")?;
-    typed(rt, distance, b"1")?;
-    typed(rt, distance, b"2000")?;
-    typed(rt, distance, b"999999999999999999")
-}
-
+// Distances with budgets, of which few allow all trials.
 fn distances(rt: &impl Print) -> io::Result<()> {
-    with_budgets(rt, b"0")?;
-    with_budgets(rt, b"1")?;
-    with_budgets(rt, b"2")?;
-    with_budgets(rt, b"4")?;
-    with_budgets(rt, b"9")?;
-    with_budgets(rt, b"10")?;
-    with_budgets(rt, b"31")?;
-    with_budgets(rt, b"32")
-}
-
-// Distances that are too large, and bytes that are none.
-fn distances_refused(rt: &impl Print) -> io::Result<()> {
-    with_budgets(rt, b"33")?;
-    with_budgets(rt, b"320")?;
-    with_budgets(rt, b"65536")?;
-    with_budgets(rt, b"99999")?;
-    with_budgets(rt, b"100000")?;
-    with_budgets(rt, b"4294967296")?;
-    with_budgets(rt, b"-1")?;
-    with_budgets(rt, b"-0")?;
-    with_budgets(rt, b"00")?;
-    with_budgets(rt, b"032")?;
-    with_budgets(rt, b"+1")?;
-    with_budgets(rt, b" 1")?;
-    with_budgets(rt, b"1 ")?;
-    with_budgets(rt, b"1\n")?;
-    with_budgets(rt, b"1\x00")?;
-    with_budgets(rt, b"1.0")?;
-    with_budgets(rt, b"-")?;
-    with_budgets(rt, b"x")?;
-    with_budgets(rt, b"")
-}
-
-// Budgets as they are typed.
-fn budgets(rt: &impl Print) -> io::Result<()> {
-    typed(rt, b"0", b"2")?;
-    typed(rt, b"0", b"10")?;
-    typed(rt, b"0", b"900")?;
-    typed(rt, b"0", b"1009")?;
-    typed(rt, b"0", b"65536")?;
-    typed(rt, b"0", b"99999")?;
-    typed(rt, b"0", b"100000")?;
-    typed(rt, b"0", b"4294967296")?;
-    typed(rt, b"0", b"100000000000000000")
-}
-
-// Bytes that are none: by them no trial is made.
-fn budgets_refused(rt: &impl Print) -> io::Result<()> {
-    typed(rt, b"0", b"1000000000000000000")?;
-    typed(rt, b"0", b"9999999999999999999")?;
-    typed(rt, b"0", b"18446744073709551617")?;
-    typed(rt, b"0", b"-1")?;
-    typed(rt, b"0", b"-0")?;
-    typed(rt, b"0", b"00")?;
-    typed(rt, b"0", b"01")?;
-    typed(rt, b"0", b"+1")?;
-    typed(rt, b"0", b" 1")?;
-    typed(rt, b"0", b"1 ")?;
-    typed(rt, b"0", b"1\n")?;
-    typed(rt, b"0", b"1\x00")?;
-    typed(rt, b"0", b"1e3")?;
-    typed(rt, b"0", b"-")?;
-    typed(rt, b"0", b"x")?;
-    typed(rt, b"0", b"")
+    let budgets: [&[u8]; 4] = [b"0", b"1", b"2000", b"999999999999999999"];
+    for distance in DISTANCES {
+        for budget in budgets {
+            printed(rt, distance, budget, LISTING)?;
+        }
+    }
+    Ok(())
 }
 
 // A listing with distances: two that are taken, one that is too large, and bytes that are none.
 fn listed(rt: &impl Print, budget: &[u8], input: &[u8]) -> io::Result<()> {
-    printed(rt, b"0", budget, input)?;
-    printed(rt, b"1", budget, input)?;
-    printed(rt, b"33", budget, input)?;
-    printed(rt, b"", budget, input)
-}
-
-// Listings that `round_trip` refuses: whatever else is typed, that number and that line are printed.
-fn listings_refused(rt: &impl Print) -> io::Result<()> {
-    listed(rt, b"9", b"")?;
-    listed(rt, b"9", b"12")?;
-    listed(rt, b"9", b"012\n")?;
-    listed(rt, b"9", b"11\n")?;
-    listed(rt, b"9", b"0\n")?;
-    listed(rt, b"9", b"144\n0,0,0,0,0,0\n")?;
-    listed(rt, b"9", b"12\n\n")?;
-    listed(rt, b"9", b"12\n1,2,3,4,5\n")?;
-    listed(rt, b"9", b"12\n1,2,3,4,5,6,7\n")?;
-    listed(rt, b"9", b"12\n1,2,3,4,5,6\n1,2,3,4,5,32768\n")?;
-    listed(rt, b"9", b"12\n1,2,3,4,5,6\n-32769,2,3,4,5,6\n")?;
-    listed(rt, b"9", b"12\n1,2,3,4,5,6\n1,2,3,4,5,6\n1,2,x,4,5,6\n")?;
-    listed(rt, b"9", b"12\n1,2,3,4,5,6")?;
-    listed(rt, b"9", b"\xff")
-}
-
-// No hops.
-fn empty(rt: &impl Print) -> io::Result<()> {
-    listed(rt, b"9", b"12\n")?;
-    listed(rt, b"9", b"24\n")?;
-    listed(rt, b"9", b"36\n")?;
-    listed(rt, b"9", b"72\n")?;
-    listed(rt, b"9", b"108\n")?;
-    listed(rt, b"9", b"216\n")
-}
-
-// Puts a byte at a place, if there is room, and answers the place behind it.
-fn put_byte(buf: &mut [u8], at: usize, b: u8) -> usize
-    requires { at ≤ length buf.old }
-    ensures { result ≤ length buf.new }
-{
-    if at == buf.len() {
-        return at;
+    let distances: [&[u8]; 4] = [b"0", b"1", b"33", b""];
+    for distance in distances {
+        printed(rt, distance, budget, input)?;
     }
-    buf[at] = b;
-    at + 1
-}
-
-fn put(buf: &mut [u8], from: usize, text: &[u8]) -> usize
-    requires { from ≤ length buf.old }
-    ensures { result ≤ length buf.new }
-{
-    let mut at = from;
-    for i in 0..text.len() {
-        at = put_byte(buf, at, text[i]);
-    }
-    at
-}
-
-// The same text so many times.
-fn put_many(buf: &mut [u8], from: usize, text: &[u8], count: usize) -> usize
-    requires { from ≤ length buf.old }
-    ensures { result ≤ length buf.new }
-{
-    let mut at = from;
-    for i in 0..count {
-        at = put(buf, at, text);
-    }
-    at
+    Ok(())
 }
 
 // A hop: two samples so many times, and two more.
-fn put_hop(buf: &mut [u8], from: usize, pair: &[u8], count: usize, last: &[u8]) -> usize
-    requires { from ≤ length buf.old }
-    ensures { result ≤ length buf.new }
-{
-    let at = put_many(buf, from, pair, count);
-    put(buf, at, last)
-}
-
-// The listing that a buffer begins with.
-fn listed_to(rt: &impl Print, budget: &[u8], buf: &[u8], end: usize) -> io::Result<()>
-    requires { end ≤ length buf.now }
-{
-    listed(rt, budget, &buf[..end])
+fn put_hop(text: &mut Vec<u8>, pair: &[u8], count: usize, last: &[u8]) -> io::Result<()> {
+    for _ in 0..count {
+        text.extend_from_slice(pair)?;
+    }
+    text.extend_from_slice(last)?;
+    Ok(())
 }
 
 // Listings of one hop to three.
-fn hops(rt: &impl Print, first: &[u8], count: usize) -> io::Result<()> {
-    let mut buf = room();
-    let at = put(&mut buf, 0, first);
-    let at = put_hop(&mut buf, at, b"-3,20000,", count, b"-1,0\n");
-    listed_to(rt, b"2000", &buf, at)?;
-    let at = put_hop(&mut buf, at, b"700,-8,", count, b"32767,9\n");
-    listed_to(rt, b"2000", &buf, at)?;
-    let at = put_hop(&mut buf, at, b"0,1,", count, b"-32768,-100\n");
-    listed_to(rt, b"2000", &buf, at)
+fn hops(rt: &HostRuntime, head: &[u8], count: usize) -> io::Result<()> {
+    let mut text = Vec::new(rt.alloc());
+    text.extend_from_slice(head)?;
+    put_hop(&mut text, b"-3,20000,", count, b"-1,0\n")?;
+    listed(rt, b"2000", &text)?;
+    put_hop(&mut text, b"700,-8,", count, b"32767,9\n")?;
+    listed(rt, b"2000", &text)?;
+    put_hop(&mut text, b"0,1,", count, b"-32768,-100\n")?;
+    listed(rt, b"2000", &text)
 }
 
 // So many hops and one that is not like them, with few trials.
-fn many(rt: &impl Print, count: usize) -> io::Result<()> {
-    let mut buf = room();
-    let at = put(&mut buf, 0, b"12\n");
-    let at = put_many(&mut buf, at, b"0,1,0,0,1,0\n", count);
-    let at = put(&mut buf, at, b"9,9,0,9,0,9\n");
-    listed_to(rt, b"3", &buf, at)
+fn many(rt: &HostRuntime, count: usize) -> io::Result<()> {
+    let mut text = Vec::new(rt.alloc());
+    text.extend_from_slice(b"12\n")?;
+    put_hop(&mut text, b"0,1,0,0,1,0\n", count, b"9,9,0,9,0,9\n")?;
+    listed(rt, b"3", &text)
 }
 
 // As many bytes as there may be, and one more: size is tested before anything else.
-fn sizes(rt: &impl Print) -> io::Result<()> {
-    let mut buf = room();
-    put(&mut buf, 0, b"12\n");
-    listed_to(rt, b"9", &buf, INPUT - 1)?;
-    listed_to(rt, b"9", &buf, INPUT)
+fn sizes(rt: &HostRuntime) -> io::Result<()> {
+    let mut text = Vec::new(rt.alloc());
+    text.extend_from_slice(b"12\n")?;
+    text.resize(MOST, 0)?;
+    listed(rt, b"9", &text)?;
+    text.push(0)?;
+    listed(rt, b"9", &text)
 }
 
-pub fn commands(rt: &impl Print) -> io::Result<()> {
+pub fn commands(rt: &HostRuntime) -> io::Result<()> {
     distances(rt)?;
-    distances_refused(rt)?;
-    budgets(rt)?;
-    budgets_refused(rt)?;
-    listings_refused(rt)?;
-    empty(rt)?;
+    for budget in BUDGETS {
+        printed(rt, b"0", budget, LISTING)?;
+    }
+    for input in REFUSED {
+        listed(rt, b"9", input)?;
+    }
+    for input in EMPTY {
+        listed(rt, b"9", input)?;
+    }
     hops(rt, b"12\n", 2)?;
     hops(rt, b"24\n", 5)?;
     hops(rt, b"36\n", 8)?;

@@ -4,27 +4,25 @@
 
 mod command;
 mod recordings;
-mod refusals;
+mod refused;
 mod search;
 
-use coarsest_calls::Coarsest;
+use bank_report::code;
+use filter_bank::{Coarsest, Refusal};
 use std::io;
 
-fn show_number(rt: &impl Print, v: u32) -> io::Result<()> {
-    report::count(rt, v as usize)
-}
-
-// What `coarsest_step` answers.
-fn show(rt: &impl Print, c: Coarsest) -> io::Result<()> {
-    show_number(rt, c.code)?;
-    show_number(rt, c.step)?;
-    show_number(rt, c.trials)?;
-    show_number(rt, c.untried)
+// What `coarsest_step` answers: its number, and the step, the trials and the untried steps, 0 where it is refused.
+fn show(rt: &impl Print, outcome: Result<Coarsest, Refusal>) -> io::Result<()> {
+    let code = code(&outcome);
+    match outcome {
+        Ok(found) => print!(rt; ",{code},{},{},{}", found.step, found.trials, found.untried),
+        Err(_) => print!(rt; ",{code},0,0,0"),
+    }
 }
 
 fn main(rt: HostRuntime) -> io::Result<()> {
     search::searches(&rt)?;
     recordings::recordings(&rt)?;
-    refusals::refusals(&rt)?;
+    refused::refusals(&rt)?;
     command::commands(&rt)
 }

@@ -1,55 +1,36 @@
 // Single coefficients as floats: zero, the ends of the range, and those about each power of two, with either sign.
-ghost use Rattle.std.specs.Prelude.{◌≤◌, ◌^◌};
-
-use crate::{LEAST, MOST, show};
+use crate::pattern;
+use bank_report::{LEAST, MOST};
 use std::io;
 
 // The largest size of a coefficient.
-const LARGEST: u64 = 536870912;
-
-fn show_value(rt: &impl Print, v: i32) -> io::Result<()> {
-    report::field(rt, v as i64)
-}
+const LARGEST: u32 = 536870912;
 
 // Entry 0 of a block of six of it.
 fn value(rt: &impl Print, v: i32) -> io::Result<()> {
-    report::word(rt, b"value")?;
-    show_value(rt, v)?;
-    let x = [v; 6];
     let mut out = [9.0f64; 6];
-    filter_bank::floats(12, &x, &mut out);
-    show(rt, out[0])?;
-    report::end(rt)
-}
-
-fn minus(size: u64) -> i32
-    requires { size ≤ 2 ^ 29 }
-{
-    -(size as i32)
+    let _ = filter_bank::floats(12, &[v; 6], &mut out);
+    println!(rt; "value,{v},{}", pattern(out[0]))
 }
 
 // With either sign, where they are coefficients.
-fn signed(rt: &impl Print, size: u64) -> io::Result<()> {
+fn signed(rt: &impl Print, size: u32) -> io::Result<()> {
     if size <= LARGEST {
-        value(rt, size as i32)?;
-        value(rt, minus(size))?;
+        let v = size as i32;
+        value(rt, v)?;
+        value(rt, -v)?;
     }
     Ok(())
 }
 
-fn about(rt: &impl Print, power: u64) -> io::Result<()>
-    requires { (1 ≤ power) × (power ≤ 2 ^ 29) }
-{
-    signed(rt, power)?;
-    signed(rt, power - 1)?;
-    signed(rt, power + 1)
-}
-
+// Powers of two up to the largest size.
 fn powers(rt: &impl Print) -> io::Result<()> {
-    let mut power: u64 = 1;
-    while power <= LARGEST {
-        about(rt, power)?;
-        power = power * 2;
+    let mut power: u32 = 1;
+    for _ in 0..30 {
+        signed(rt, power)?;
+        signed(rt, power.saturating_sub(1))?;
+        signed(rt, power.saturating_add(1))?;
+        power = power.saturating_mul(2);
     }
     Ok(())
 }

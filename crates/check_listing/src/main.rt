@@ -1,354 +1,361 @@
 // Listings through `round_trip`, compared with what vectors/listing.py makes from the definitions.
 #![tactic(auto)]
 
-ghost use Rattle.std.specs.Prelude.{◌≡◌, ◌≤◌, ◌<◌, length};
+ghost use Rattle.std.specs.Prelude.{◌≤◌};
 
-use std::io;
+use report::buffers::first;
+use report::sum_bytes;
+use std::io::{self, Write};
 
-// Room for one byte more than a listing may have.
-const INPUT: usize = 65537;
+// The most bytes of a listing.
+const MOST: usize = 65536;
 
-fn room() -> [u8; INPUT]
-    ensures { length result ≡ 65537 }
-{
-    [0; INPUT]
+// What the samples of a listing are: of one digit, or of any size.
+#[derive(Clone, Copy)]
+enum Samples {
+    Digits,
+    Wide,
+}
+
+// A listing that is made up: its first lines, and then hops of m samples.
+#[derive(Clone, Copy)]
+struct Listing<'a> {
+    head: &'a [u8],
+    samples: Samples,
+    hops: usize,
+    m: usize,
 }
 
 // All that is printed for an input.
 fn show(rt: &impl Print, input: &[u8]) -> io::Result<()> {
-    let mut out = [165u8; listing::ROOM];
-    let r = listing::round_trip(input, &mut out);
-    report::word(rt, &out[..r])
+    let mut out = [165; listing::ROOM];
+    let end = listing::round_trip(input, &mut out);
+    rt.write_all(first(&out, end))
 }
 
 // The lengths of an input and of what is printed for it, with the sums of both.
 fn tell(rt: &impl Print, input: &[u8]) -> io::Result<()> {
-    let mut out = [165u8; listing::ROOM];
-    let r = listing::round_trip(input, &mut out);
-    report::word(rt, b"bytes")?;
-    report::count(rt, input.len())?;
-    report::count(rt, report::sum_bytes(input) as usize)?;
-    report::count(rt, r)?;
-    report::count(rt, report::sum_bytes(&out[..r]) as usize)?;
-    report::end(rt)
+    let mut out = [165; listing::ROOM];
+    let end = listing::round_trip(input, &mut out);
+    let sum = sum_bytes(input);
+    let sum_printed = sum_bytes(first(&out, end));
+    println!(rt; "bytes,{},{sum},{end},{sum_printed}", input.len())
 }
 
-// Puts a byte at a place, if there is room, and answers the place behind it.
-fn put_byte(buf: &mut [u8], at: usize, b: u8) -> usize
-    requires { at ≤ length buf.old }
-    ensures { result ≤ length buf.new }
-{
-    if at == buf.len() {
-        return at;
+// A sample by a number that is made up.
+fn put_sample(text: &mut Vec<u8>, samples: Samples, k: usize) -> io::Result<()> {
+    let digit = match samples {
+        Samples::Digits => k % 10,
+        Samples::Wide => k / 7 % 10,
+    };
+    match (samples, k % 7) {
+        (Samples::Wide, 0) => write!(text, "-32768"),
+        (Samples::Wide, 1) => write!(text, "32767"),
+        (Samples::Wide, 2) => write!(text, "-1"),
+        (Samples::Wide, 3) => write!(text, "12345"),
+        (Samples::Wide, 4) => write!(text, "-9999"),
+        _ => write!(text, "{digit}"),
     }
-    buf[at] = b;
-    at + 1
 }
 
-fn put(buf: &mut [u8], from: usize, text: &[u8]) -> usize
-    requires { from ≤ length buf.old }
-    ensures { result ≤ length buf.new }
+// Hop h, of m samples.
+fn put_hop(text: &mut Vec<u8>, samples: Samples, h: usize, m: usize) -> io::Result<()>
+    requires { (h ≤ 6000) × (m ≤ 109) }
 {
-    let mut at = from;
-    for i in 0..text.len() {
-        at = put_byte(buf, at, text[i]);
-    }
-    at
-}
-
-// A sample of one digit, and one of any size.
-fn put_digit(buf: &mut [u8], at: usize, k: usize) -> usize
-    requires { at ≤ length buf.old }
-    ensures { result ≤ length buf.new }
-{
-    put_byte(buf, at, b'0' + (k % 10) as u8)
-}
-
-fn put_wide(buf: &mut [u8], at: usize, k: usize) -> usize
-    requires { at ≤ length buf.old }
-    ensures { result ≤ length buf.new }
-{
-    let kind = k % 7;
-    if kind == 0 {
-        return put(buf, at, b"-32768");
-    }
-    if kind == 1 {
-        return put(buf, at, b"32767");
-    }
-    if kind == 2 {
-        return put(buf, at, b"-1");
-    }
-    if kind == 3 {
-        return put(buf, at, b"12345");
-    }
-    if kind == 4 {
-        return put(buf, at, b"-9999");
-    }
-    put_digit(buf, at, k / 7)
-}
-
-fn put_sample(buf: &mut [u8], at: usize, is_wide: bool, k: usize) -> usize
-    requires { at ≤ length buf.old }
-    ensures { result ≤ length buf.new }
-{
-    if is_wide {
-        return put_wide(buf, at, k);
-    }
-    put_digit(buf, at, k)
-}
-
-// What stands behind sample i of m.
-fn put_end(buf: &mut [u8], at: usize, i: usize, m: usize) -> usize
-    requires { (at ≤ length buf.old) × (i < m) }
-    ensures { result ≤ length buf.new }
-{
-    if i + 1 < m {
-        return put(buf, at, b",");
-    }
-    put(buf, at, b"\n")
-}
-
-// A hop of m samples.
-fn put_hop(buf: &mut [u8], from: usize, is_wide: bool, h: usize, m: usize) -> usize
-    requires { (from ≤ length buf.old) × (h ≤ 6000) × (m ≤ 109) }
-    ensures { result ≤ length buf.new }
-{
-    let mut at = from;
     for i in 0..m {
-        at = put_sample(buf, at, is_wide, 5 * h + 3 * i);
-        at = put_end(buf, at, i, m);
-    }
-    at
-}
-
-fn put_hops(buf: &mut [u8], from: usize, is_wide: bool, hops: usize, m: usize) -> usize
-    requires { (from ≤ length buf.old) × (hops ≤ 6000) × (m ≤ 108) }
-    ensures { result ≤ length buf.new }
-{
-    let mut at = from;
-    for h in 0..hops {
-        at = put_hop(buf, at, is_wide, h, m);
-    }
-    at
-}
-
-// A listing of hops: whole, without its last byte, and with one byte more.
-fn long(rt: &impl Print, first: &[u8], is_wide: bool, hops: usize, m: usize) -> io::Result<()>
-    requires { (hops ≤ 6000) × (m ≤ 108) }
-{
-    let mut buf = room();
-    let start = put(&mut buf, 0, first);
-    let end = put_hops(&mut buf, start, is_wide, hops, m);
-    tell(rt, &buf[..end])?;
-    if 0 < end {
-        show(rt, &buf[..end - 1])?;
-    }
-    if end < INPUT {
-        show(rt, &buf[..end + 1])?;
+        put_sample(text, samples, 5 * h + 3 * i)?;
+        text.push(if i + 1 < m { b',' } else { b'\n' })?;
     }
     Ok(())
 }
 
-// A first line and zero bytes behind it, n in all.
-fn size(rt: &impl Print, first: &[u8], n: usize) -> io::Result<()>
-    requires { n ≤ 65537 }
+fn put_listing(text: &mut Vec<u8>, listing: Listing) -> io::Result<()>
+    requires { (listing.hops ≤ 6000) × (listing.m ≤ 108) }
 {
-    let mut buf = room();
-    put(&mut buf, 0, first);
-    show(rt, &buf[..n])
+    text.extend_from_slice(listing.head)?;
+    for h in 0..listing.hops {
+        put_hop(text, listing.samples, h, listing.m)?;
+    }
+    Ok(())
 }
 
-// As many bytes as there may be, and one more, whatever they are: size is tested before anything else.
-fn sizes(rt: &impl Print, first: &[u8]) -> io::Result<()> {
-    size(rt, first, INPUT - 1)?;
-    size(rt, first, INPUT)
+// A listing of many hops: whole, without its last byte, and with one byte more.
+fn long(rt: &HostRuntime, listing: Listing) -> io::Result<()>
+    requires { (listing.hops ≤ 6000) × (listing.m ≤ 108) }
+{
+    let mut text = Vec::new(rt.alloc());
+    put_listing(&mut text, listing)?;
+    tell(rt, &text)?;
+    show(rt, first(&text, text.len().saturating_sub(1)))?;
+    text.push(0)?;
+    show(rt, &text)
+}
+
+// A first line and zero bytes behind it: as many bytes as there may be, and one more, whatever they are. Size is tested before anything else.
+fn sizes(rt: &HostRuntime, head: &[u8]) -> io::Result<()> {
+    let mut text = Vec::new(rt.alloc());
+    text.extend_from_slice(head)?;
+    text.resize(MOST, 0)?;
+    show(rt, &text)?;
+    text.push(0)?;
+    show(rt, &text)
 }
 
 // Rubbish: all bytes, from one of them on.
-fn rubbish(rt: &impl Print, from: usize) -> io::Result<()>
-    requires { from ≤ 256 }
-{
-    let mut buf = [0u8; 256];
-    let mut at = 0;
-    for k in 0..256 {
-        at = put_byte(&mut buf, at, ((from + k) % 256) as u8);
+fn rubbish(rt: &impl Print, from: u8) -> io::Result<()> {
+    let mut bytes = [from; 256];
+    for (k, byte) in (0..=255).zip(bytes.iter_mut()) {
+        *byte = byte.wrapping_add(k);
     }
-    show(rt, &buf)
+    show(rt, &bytes)
 }
 
 // Line 1 of another form, or without its line feed: 5.
-fn first_lines_refused(rt: &impl Print) -> io::Result<()> {
-    show(rt, b"")?;
-    show(rt, b"\n")?;
-    show(rt, b"\n\n")?;
-    show(rt, b"12")?;
-    show(rt, b"12,12\n")?;
-    show(rt, b"12\r\n")?;
-    show(rt, b" 12\n")?;
-    show(rt, b"12 \n")?;
-    show(rt, b"012\n")?;
-    show(rt, b"+12\n")?;
-    show(rt, b"-\n")?;
-    show(rt, b"--12\n")?;
-    show(rt, b"-0\n")?;
-    show(rt, b"00\n")?;
-    show(rt, b"-012\n")?;
-    show(rt, b"1-2\n")?;
-    show(rt, b"123456\n")?;
-    show(rt, b"-123456\n")?;
-    show(rt, b"12,\n")?;
-    show(rt, b",12\n")?;
-    show(rt, b"12.\n")?;
-    show(rt, b"1e1\n")?;
-    show(rt, b"\xc2\xb912\n")?;
-    show(rt, b"012\n1,2,3,4,5\n")?;
-    show(rt, b"0108\n")?;
-    show(rt, b"216")?;
-    show(rt, b"216,\n")
-}
+const FIRST_LINES: [&[u8]; 27] = [
+    b"",
+    b"\n",
+    b"\n\n",
+    b"12",
+    b"12,12\n",
+    b"12\r\n",
+    b" 12\n",
+    b"12 \n",
+    b"012\n",
+    b"+12\n",
+    b"-\n",
+    b"--12\n",
+    b"-0\n",
+    b"00\n",
+    b"-012\n",
+    b"1-2\n",
+    b"123456\n",
+    b"-123456\n",
+    b"12,\n",
+    b",12\n",
+    b"12.\n",
+    b"1e1\n",
+    b"\xc2\xb912\n",
+    b"012\n1,2,3,4,5\n",
+    b"0108\n",
+    b"216",
+    b"216,\n",
+];
 
 // A length that is well-formed and not tabled: 1, whatever stands behind it.
-fn lengths_refused(rt: &impl Print) -> io::Result<()> {
-    show(rt, b"-12\n")?;
-    show(rt, b"0\n")?;
-    show(rt, b"1\n")?;
-    show(rt, b"11\n")?;
-    show(rt, b"48\n")?;
-    show(rt, b"99999\n")?;
-    show(rt, b"-99999\n")?;
-    show(rt, b"65548\n")?;
-    show(rt, b"11\nx")?;
-    show(rt, b"13\n\n\n")?;
-    show(rt, b"107\n")?;
-    show(rt, b"144\n")?;
-    show(rt, b"217\n")?;
-    show(rt, b"432\n")?;
-    show(rt, b"65752\n")
-}
+const LENGTHS: [&[u8]; 15] = [
+    b"-12\n",
+    b"0\n",
+    b"1\n",
+    b"11\n",
+    b"48\n",
+    b"99999\n",
+    b"-99999\n",
+    b"65548\n",
+    b"11\nx",
+    b"13\n\n\n",
+    b"107\n",
+    b"144\n",
+    b"217\n",
+    b"432\n",
+    b"65752\n",
+];
+
+// Lines that are no hop of six samples.
+const HOPS: [&[u8]; 26] = [
+    b"\n",
+    b"1,2,3,4,5\n",
+    b"1,2,3,4,5,6,7\n",
+    b"1,2,3,4,5,\n",
+    b",2,3,4,5,6\n",
+    b"1,2,,4,5,6\n",
+    b"1,2,3,4,5,06\n",
+    b"01,2,3,4,5,6\n",
+    b"1,2,-0,4,5,6\n",
+    b"1,2,--3,4,5,6\n",
+    b"1,2,-,4,5,6\n",
+    b"1,2,+3,4,5,6\n",
+    b"1,2,3,4,5,32768\n",
+    b"-32769,2,3,4,5,6\n",
+    b"1,99999,3,4,5,6\n",
+    b"1,-99999,3,4,5,6\n",
+    b"1,2,3,4,5,100000\n",
+    b"1,2,3,4,5,6\r\n",
+    b"1, 2,3,4,5,6\n",
+    b"1,2,3,4,5,6 \n",
+    b"1;2;3;4;5;6\n",
+    b"\"1\",2,3,4,5,6\n",
+    b"1,2,3,4,5,6\x00\n",
+    b"1,2,3,4,5,6",
+    b"1,2,3,4,5,6,",
+    b"x",
+];
 
 // A hop that is none, in line 2 and behind a good one: 5.
-fn hop_refused(rt: &impl Print, line: &[u8]) -> io::Result<()> {
-    let mut buf = room();
-    let at = put(&mut buf, 0, b"12\n");
-    let end = put(&mut buf, at, line);
-    show(rt, &buf[..end])?;
-    let at = put(&mut buf, at, b"1,2,3,4,5,6\n");
-    let end = put(&mut buf, at, line);
-    show(rt, &buf[..end])?;
-    let end = put(&mut buf, end, b"1,2,3,4,5,6\n01\n");
-    show(rt, &buf[..end])
-}
-
-fn hops_refused(rt: &impl Print) -> io::Result<()> {
-    hop_refused(rt, b"\n")?;
-    hop_refused(rt, b"1,2,3,4,5\n")?;
-    hop_refused(rt, b"1,2,3,4,5,6,7\n")?;
-    hop_refused(rt, b"1,2,3,4,5,\n")?;
-    hop_refused(rt, b",2,3,4,5,6\n")?;
-    hop_refused(rt, b"1,2,,4,5,6\n")?;
-    hop_refused(rt, b"1,2,3,4,5,06\n")?;
-    hop_refused(rt, b"01,2,3,4,5,6\n")?;
-    hop_refused(rt, b"1,2,-0,4,5,6\n")?;
-    hop_refused(rt, b"1,2,--3,4,5,6\n")?;
-    hop_refused(rt, b"1,2,-,4,5,6\n")?;
-    hop_refused(rt, b"1,2,+3,4,5,6\n")?;
-    hop_refused(rt, b"1,2,3,4,5,32768\n")?;
-    hop_refused(rt, b"-32769,2,3,4,5,6\n")?;
-    hop_refused(rt, b"1,99999,3,4,5,6\n")?;
-    hop_refused(rt, b"1,-99999,3,4,5,6\n")?;
-    hop_refused(rt, b"1,2,3,4,5,100000\n")?;
-    hop_refused(rt, b"1,2,3,4,5,6\r\n")?;
-    hop_refused(rt, b"1, 2,3,4,5,6\n")?;
-    hop_refused(rt, b"1,2,3,4,5,6 \n")?;
-    hop_refused(rt, b"1;2;3;4;5;6\n")?;
-    hop_refused(rt, b"\"1\",2,3,4,5,6\n")?;
-    hop_refused(rt, b"1,2,3,4,5,6\x00\n")?;
-    hop_refused(rt, b"1,2,3,4,5,6")?;
-    hop_refused(rt, b"1,2,3,4,5,6,")?;
-    hop_refused(rt, b"x")
+fn hop_refused(rt: &HostRuntime, line: &[u8]) -> io::Result<()> {
+    let mut text = Vec::new(rt.alloc());
+    text.extend_from_slice(b"12\n")?;
+    text.extend_from_slice(line)?;
+    show(rt, &text)?;
+    text.truncate(3);
+    text.extend_from_slice(b"1,2,3,4,5,6\n")?;
+    text.extend_from_slice(line)?;
+    show(rt, &text)?;
+    text.extend_from_slice(b"1,2,3,4,5,6\n01\n")?;
+    show(rt, &text)
 }
 
 // Listings that are taken, of none to five hops.
-fn short(rt: &impl Print, first: &[u8], m: usize) -> io::Result<()>
+fn short(rt: &HostRuntime, head: &[u8], m: usize) -> io::Result<()>
     requires { m ≤ 108 }
 {
     for hops in 0..6 {
-        let mut buf = room();
-        let at = put(&mut buf, 0, first);
-        let end = put_hops(&mut buf, at, true, hops, m);
-        show(rt, &buf[..end])?;
+        let mut text = Vec::new(rt.alloc());
+        let listing = Listing {
+            head,
+            samples: Samples::Wide,
+            hops,
+            m,
+        };
+        put_listing(&mut text, listing)?;
+        show(rt, &text)?;
     }
     Ok(())
 }
 
 // A hop of another count of samples behind a good one: 5.
-fn miscounted(rt: &impl Print, first: &[u8], m: usize, count: usize) -> io::Result<()>
+fn miscounted(rt: &HostRuntime, head: &[u8], m: usize, count: usize) -> io::Result<()>
     requires { (m ≤ 108) × (count ≤ 109) }
 {
-    let mut buf = room();
-    let at = put(&mut buf, 0, first);
-    let at = put_hop(&mut buf, at, true, 0, m);
-    let end = put_hop(&mut buf, at, true, 1, count);
-    show(rt, &buf[..end])
+    let mut text = Vec::new(rt.alloc());
+    text.extend_from_slice(head)?;
+    put_hop(&mut text, Samples::Wide, 0, m)?;
+    put_hop(&mut text, Samples::Wide, 1, count)?;
+    show(rt, &text)
 }
 
 // The hops of a length: a few, and one with a sample too few or too many.
-fn counts(rt: &impl Print, first: &[u8], m: usize) -> io::Result<()>
+fn counts(rt: &HostRuntime, head: &[u8], m: usize) -> io::Result<()>
     requires { (1 ≤ m) × (m ≤ 108) }
 {
-    short(rt, first, m)?;
-    miscounted(rt, first, m, m - 1)?;
-    miscounted(rt, first, m, m + 1)
+    short(rt, head, m)?;
+    miscounted(rt, head, m, m - 1)?;
+    miscounted(rt, head, m, m + 1)
 }
 
 // As many hops as fit, in 65,536 bytes.
-fn longest(rt: &impl Print) -> io::Result<()> {
-    long(rt, b"12\n10,0,0,0,0,0\n", false, 5460, 6)?;
+fn longest(rt: &HostRuntime) -> io::Result<()> {
     long(
         rt,
-        b"24\n100,10,10,10,10,10,10,10,10,10,10,10\n",
-        false,
-        2729,
-        12,
+        Listing {
+            head: b"12\n10,0,0,0,0,0\n",
+            samples: Samples::Digits,
+            hops: 5460,
+            m: 6,
+        },
     )?;
     long(
         rt,
-        b"36\n10,10,10,10,10,10,10,10,10,10,10,10,10,0,0,0,0,0\n",
-        false,
-        1819,
-        18,
+        Listing {
+            head: b"24\n100,10,10,10,10,10,10,10,10,10,10,10\n",
+            samples: Samples::Digits,
+            hops: 2729,
+            m: 12,
+        },
     )?;
     long(
         rt,
-        b"72\n10,10,10,10,10,10,10,10,10,10,10,10,10,0,0,0,0,0,0,0,0,0,0,0,0,0,0,0,0,0,0,0,0,0,0,0\n",
-        false,
-        909,
-        36,
+        Listing {
+            head: b"36\n10,10,10,10,10,10,10,10,10,10,10,10,10,0,0,0,0,0\n",
+            samples: Samples::Digits,
+            hops: 1819,
+            m: 18,
+        },
     )?;
     long(
         rt,
-        b"108\n100,100,100,100,100,100,100,100,100,100,100,100,100,100,100,100,100,100,100,100,100,100,100,100,100,100,100,100,100,100,100,100,100,100,100,100,100,100,100,100,100,100,0,0,0,0,0,0,0,0,0,0,0,0\n",
-        false,
-        605,
-        54,
+        Listing {
+            head: b"72\n10,10,10,10,10,10,10,10,10,10,10,10,10,0,0,0,0,0,0,0,0,0,0,0,0,0,0,0,0,0,0,0,0,0,0,0\n",
+            samples: Samples::Digits,
+            hops: 909,
+            m: 36,
+        },
     )?;
     long(
         rt,
-        b"216\n10,10,10,10,10,10,10,10,10,10,10,10,10,10,10,10,10,10,10,10,10,10,10,10,10,10,10,10,10,10,10,10,10,10,10,10,10,10,10,10,10,10,10,10,10,10,10,10,10,10,10,10,10,10,10,10,10,10,10,10,10,10,10,10,10,10,10,10,10,10,10,10,10,10,10,10,10,10,10,10,10,10,10,10,0,0,0,0,0,0,0,0,0,0,0,0,0,0,0,0,0,0,0,0,0,0,0,0\n",
-        false,
-        302,
-        108,
+        Listing {
+            head: b"108\n100,100,100,100,100,100,100,100,100,100,100,100,100,100,100,100,100,100,100,100,100,100,100,100,100,100,100,100,100,100,100,100,100,100,100,100,100,100,100,100,100,100,0,0,0,0,0,0,0,0,0,0,0,0\n",
+            samples: Samples::Digits,
+            hops: 605,
+            m: 54,
+        },
+    )?;
+    long(
+        rt,
+        Listing {
+            head: b"216\n10,10,10,10,10,10,10,10,10,10,10,10,10,10,10,10,10,10,10,10,10,10,10,10,10,10,10,10,10,10,10,10,10,10,10,10,10,10,10,10,10,10,10,10,10,10,10,10,10,10,10,10,10,10,10,10,10,10,10,10,10,10,10,10,10,10,10,10,10,10,10,10,10,10,10,10,10,10,10,10,10,10,10,10,0,0,0,0,0,0,0,0,0,0,0,0,0,0,0,0,0,0,0,0,0,0,0,0\n",
+            samples: Samples::Digits,
+            hops: 302,
+            m: 108,
+        },
     )
 }
 
 // Hops of long samples.
-fn widest(rt: &impl Print) -> io::Result<()> {
-    long(rt, b"12\n", true, 2000, 6)?;
-    long(rt, b"24\n", true, 1000, 12)?;
-    long(rt, b"36\n", true, 700, 18)?;
-    long(rt, b"72\n", true, 350, 36)?;
-    long(rt, b"108\n", true, 230, 54)?;
-    long(rt, b"216\n", true, 115, 108)
+fn widest(rt: &HostRuntime) -> io::Result<()> {
+    long(
+        rt,
+        Listing {
+            head: b"12\n",
+            samples: Samples::Wide,
+            hops: 2000,
+            m: 6,
+        },
+    )?;
+    long(
+        rt,
+        Listing {
+            head: b"24\n",
+            samples: Samples::Wide,
+            hops: 1000,
+            m: 12,
+        },
+    )?;
+    long(
+        rt,
+        Listing {
+            head: b"36\n",
+            samples: Samples::Wide,
+            hops: 700,
+            m: 18,
+        },
+    )?;
+    long(
+        rt,
+        Listing {
+            head: b"72\n",
+            samples: Samples::Wide,
+            hops: 350,
+            m: 36,
+        },
+    )?;
+    long(
+        rt,
+        Listing {
+            head: b"108\n",
+            samples: Samples::Wide,
+            hops: 230,
+            m: 54,
+        },
+    )?;
+    long(
+        rt,
+        Listing {
+            head: b"216\n",
+            samples: Samples::Wide,
+            hops: 115,
+            m: 108,
+        },
+    )
 }
 
 fn main(rt: HostRuntime) -> io::Result<()> {
@@ -356,9 +363,15 @@ fn main(rt: HostRuntime) -> io::Result<()> {
         &rt,
         b"12\n0,0,0,0,0,0\n7,-8,32767,-32768,1,0\n5,5,5,5,5,5\n",
     )?;
-    first_lines_refused(&rt)?;
-    lengths_refused(&rt)?;
-    hops_refused(&rt)?;
+    for listing in FIRST_LINES {
+        show(&rt, listing)?;
+    }
+    for listing in LENGTHS {
+        show(&rt, listing)?;
+    }
+    for line in HOPS {
+        hop_refused(&rt, line)?;
+    }
     counts(&rt, b"12\n", 6)?;
     counts(&rt, b"24\n", 12)?;
     counts(&rt, b"36\n", 18)?;

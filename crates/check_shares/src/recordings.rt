@@ -1,118 +1,51 @@
 // Which coefficient moved a sample of a recording: the calls over recordings, from either order.
-ghost use Rattle.std.specs.Prelude.{◌≡◌, ◌≤◌, ◌<◌, ◌^◌, length};
+ghost use Rattle.std.specs.Prelude.{◌≤◌, ◌<◌};
 
-use crate::{
-    ABOVE, BELOW, CHOICES, NUMBERS, damaged_length, damaged_n, damaged_place, damaged_room,
-    damaged_value, has, rest, show, show_numbers, show_value,
-};
-use orders::Order;
-use report::noise::random;
+use crate::{CHOICES, NUMBERS, causes_by, either, show, show_named};
+use bank_report::{ABOVE, BELOW, ORDERS, order_name};
+use filter_bank::Order;
+use report::buffers::{first, first_of, with};
+use report::noise::coefficients;
+use share_calls::Change;
 use std::io;
 
 // Room for the coefficients of one hop too many at the shortest length, and so of 681 and 226 hops at N = 72 and 216.
 const MANY: usize = 24582;
 
-fn show_order(rt: &impl Print, order: Order) -> io::Result<()> {
-    match order {
-        Order::ByBlock => report::word(rt, b",block")?,
-        Order::ByFrequency => report::word(rt, b",frequency")?,
-    }
-    Ok(())
-}
-
-// Behind the word for a case: what both calls are asked and what they answer.
-fn told(
-    rt: &impl Print,
+// A recording, in an order: the length of its blocks and its hops.
+#[derive(Clone, Copy)]
+struct Recording {
     order: Order,
     n: usize,
     hops: usize,
-    original: &[i32],
-    changed: &[i32],
+}
+
+// A sample of it: its hop, and its place there.
+#[derive(Clone, Copy)]
+struct Sample {
+    of: Recording,
     hop: usize,
     place: usize,
-    named: &mut [u32],
-) -> io::Result<()> {
-    show_order(rt, order)?;
-    report::count(rt, n)?;
-    report::count(rt, hops)?;
-    report::count(rt, hop)?;
-    report::count(rt, place)?;
+}
+
+// Behind the word for a case: what both calls are asked and what they answer, with room for some of four numbers.
+fn lend(rt: &impl Print, sample: Sample, x: &[i32], y: &[i32], room: usize) -> io::Result<()> {
+    let Sample { of, hop, place } = sample;
+    let Recording { order, n, hops } = of;
+    let change = Change {
+        original: x,
+        changed: y,
+    };
+    let name = order_name(order);
+    print!(rt; ",{name},{n},{hops},{hop},{place}")?;
     show(
         rt,
-        filter_bank::largest_share_recording(order, n, hops, original, changed, hop, place),
+        filter_bank::largest_share_recording(order, n, hops, change, hop, place),
     )?;
-    let code = filter_bank::name_share_recording(
-        order, n, hops, original, changed, hop, place, named,
-    );
-    report::count(rt, code as usize)
-}
-
-// The calls on the first p and q of two lists, and the first `room` of four numbers, which are all shown afterwards.
-fn lend(
-    rt: &impl Print,
-    order: Order,
-    n: usize,
-    hops: usize,
-    hop: usize,
-    place: usize,
-    x: [i32; MANY],
-    y: [i32; MANY],
-    p: usize,
-    q: usize,
-    room: usize,
-) -> io::Result<()>
-    requires { (p ≤ 24582) × (q ≤ 24582) × (room ≤ 4) }
-{
     let mut named = [12345; NUMBERS];
-    told(
-        rt,
-        order,
-        n,
-        hops,
-        &x[..p],
-        &y[..q],
-        hop,
-        place,
-        &mut named[..room],
-    )?;
-    show_numbers(rt, named)?;
-    report::end(rt)
-}
-
-// Noise of a seed and a span at every place.
-fn fill(c: &mut [i32], seed: u64, span: u64)
-    requires { (seed < 2 ^ 32) × (span < 2 ^ 30) }
-    ensures { length c.new ≡ length c.old }
-{
-    let mut r = seed;
-    for k in 0..c.len() {
-        r = random(r);
-        c[k] = report::noise::offset(r, span);
-    }
-}
-
-fn many(seed: u64, span: u64) -> [i32; MANY]
-    requires { (seed < 2 ^ 32) × (span < 2 ^ 30) }
-{
-    let mut c = [0; MANY];
-    fill(&mut c, seed, span);
-    c
-}
-
-// The same list with v in one place.
-fn with(c: [i32; MANY], at: usize, v: i32) -> [i32; MANY] {
-    let mut r = c;
-    if at < MANY {
-        r[at] = v;
-    }
-    r
-}
-
-// Entry `at` of row r, in rows of so many.
-fn entry(r: usize, width: usize, at: usize) -> usize
-    requires { (r ≤ 4096) × (width ≤ 4096) × (at ≤ 4096) }
-{
-    r * width + at
+    let lent = first_of(&mut named, room);
+    let outcome = filter_bank::name_share_recording(order, n, hops, change, hop, place, lent);
+    show_named(rt, outcome, named)
 }
 
 // Where coefficient k of block b lies.
@@ -120,287 +53,226 @@ fn lies(order: Order, m: usize, hops: usize, b: usize, k: usize) -> usize
     requires { (m ≤ 108) × (hops ≤ 4095) × (b ≤ 4095) × (k ≤ 108) }
 {
     match order {
-        Order::ByBlock => entry(b, m, k),
-        Order::ByFrequency => entry(k, hops + 1, b),
+        Order::ByBlock => b * m + k,
+        Order::ByFrequency => k * (hops + 1) + b,
     }
 }
 
-// Every coefficient changes at random: the same numbers, taken in either order.
-fn noisy(
-    rt: &impl Print,
-    order: Order,
-    n: usize,
-    hops: usize,
-    l: usize,
-    hop: usize,
-    place: usize,
-    span: u64,
-) -> io::Result<()>
-    requires { (l ≤ 24582) × (span < 2 ^ 30) }
+// Every one of l coefficients changes at random: the same numbers, taken in either order.
+fn noisy(rt: &impl Print, sample: Sample, l: usize, span: u32) -> io::Result<()>
+    requires { span < 1073741824 }
 {
-    report::word(rt, b"recording,noise")?;
-    report::count(rt, span as usize)?;
-    let x = many(5, span);
-    let y = many(6, span);
-    lend(rt, order, n, hops, hop, place, x, y, l, l, 3)
+    let x: [i32; MANY] = coefficients(5, span);
+    let y: [i32; MANY] = coefficients(6, span);
+    print!(rt; "recording,noise,{span}")?;
+    lend(rt, sample, first(&x, l), first(&y, l), 3)
 }
 
-fn still(
-    rt: &impl Print,
-    order: Order,
-    n: usize,
-    hops: usize,
-    l: usize,
-    hop: usize,
-    place: usize,
-) -> io::Result<()>
-    requires { l ≤ 24582 }
-{
-    report::word(rt, b"recording,still")?;
-    let x = many(7, 536870912);
-    lend(rt, order, n, hops, hop, place, x, x, l, l, 3)
+fn still(rt: &impl Print, sample: Sample, l: usize) -> io::Result<()> {
+    let x: [i32; MANY] = coefficients(7, 536870912);
+    print!(rt; "recording,still")?;
+    lend(rt, sample, first(&x, l), first(&x, l), 3)
 }
 
 // Coefficient k of block b changes, and no other: the same answer from either order.
-fn one(
-    rt: &impl Print,
-    order: Order,
-    n: usize,
-    m: usize,
-    hops: usize,
-    l: usize,
-    hop: usize,
-    place: usize,
-    b: usize,
-    k: usize,
-) -> io::Result<()>
-    requires { (m ≤ 108) × (hops ≤ 4095) × (l ≤ 24582) × (b ≤ 4095) × (k ≤ 108) }
+fn one(rt: &impl Print, sample: Sample, m: usize, l: usize, b: usize, k: usize) -> io::Result<()>
+    requires { (m ≤ 108) × (sample.of.hops ≤ 4095) × (b ≤ 4095) × (k ≤ 108) }
 {
-    report::word(rt, b"recording,one")?;
-    report::count(rt, b)?;
-    report::count(rt, k)?;
-    let x = many(7, 536870912);
-    let y = with(x, lies(order, m, hops, b, k), 0);
-    lend(rt, order, n, hops, hop, place, x, y, l, l, 3)
+    let x: [i32; MANY] = coefficients(7, 536870912);
+    let y = with(x, lies(sample.of.order, m, sample.of.hops, b, k), 0);
+    print!(rt; "recording,one,{b},{k}")?;
+    lend(rt, sample, first(&x, l), first(&y, l), 3)
 }
 
 // Changes everywhere, none, one in the earlier block, one in the later, and one in a block that does not cover the hop if there is any.
-fn at_hop(
-    rt: &impl Print,
-    order: Order,
-    n: usize,
-    m: usize,
-    hops: usize,
-    l: usize,
-    hop: usize,
-) -> io::Result<()>
-    requires { (1 ≤ m) × (m ≤ 108) × (hops ≤ 4095) × (l ≤ 24582) × (hop < hops) }
+fn at_hop(rt: &impl Print, of: Recording, l: usize, hop: usize) -> io::Result<()>
+    requires { (2 ≤ of.n) × (of.n ≤ 216) × (of.hops ≤ 4095) × (hop < of.hops) }
 {
-    noisy(rt, order, n, hops, l, hop, 0, 536870912)?;
-    noisy(rt, order, n, hops, l, hop, m - 1, 1000)?;
-    still(rt, order, n, hops, l, hop, 1)?;
-    one(rt, order, n, m, hops, l, hop, 0, hop, m - 1)?;
-    one(rt, order, n, m, hops, l, hop, m - 1, hop + 1, 0)?;
-    one(
-        rt,
-        order,
-        n,
-        m,
-        hops,
-        l,
+    let m = of.n / 2;
+    let front = Sample { of, hop, place: 0 };
+    let inner = Sample { of, hop, place: 1 };
+    let back = Sample {
+        of,
         hop,
-        1,
-        rest(hop + 2, hops + 1),
-        m / 2,
-    )
-}
-
-fn in_orders(
-    rt: &impl Print,
-    n: usize,
-    m: usize,
-    hops: usize,
-    l: usize,
-    hop: usize,
-) -> io::Result<()>
-    requires { (1 ≤ m) × (m ≤ 108) × (hops ≤ 4095) × (l ≤ 24582) × (hop < hops) }
-{
-    at_hop(rt, Order::ByBlock, n, m, hops, l, hop)?;
-    at_hop(rt, Order::ByFrequency, n, m, hops, l, hop)
+        place: m - 1,
+    };
+    noisy(rt, front, l, 536870912)?;
+    noisy(rt, back, l, 1000)?;
+    still(rt, inner, l)?;
+    one(rt, front, m, l, hop, m - 1)?;
+    one(rt, back, m, l, hop + 1, 0)?;
+    one(rt, inner, m, l, (hop + 2) % (of.hops + 1), m / 2)
 }
 
 // The first hop, one in the middle and the last.
-fn over(rt: &impl Print, n: usize, m: usize, hops: usize, l: usize) -> io::Result<()>
-    requires { (1 ≤ m) × (m ≤ 108) × (1 ≤ hops) × (hops ≤ 4095) × (l ≤ 24582) }
+fn over(rt: &impl Print, n: usize, hops: usize) -> io::Result<()>
+    requires { (2 ≤ n) × (n ≤ 216) × (1 ≤ hops) × (hops ≤ 4095) }
 {
-    in_orders(rt, n, m, hops, l, 0)?;
-    in_orders(rt, n, m, hops, l, hops / 2)?;
-    in_orders(rt, n, m, hops, l, hops - 1)
+    let l = (hops + 1) * (n / 2);
+    for hop in [0, hops / 2, hops - 1] {
+        let hop = hop.min(hops - 1);
+        for order in ORDERS {
+            at_hop(rt, Recording { order, n, hops }, l, hop)?;
+        }
+    }
+    Ok(())
 }
 
 // Lists of p and q coefficients, and a room.
-fn sized(
-    rt: &impl Print,
-    order: Order,
-    n: usize,
-    hops: usize,
-    hop: usize,
-    place: usize,
-    p: usize,
-    q: usize,
-    room: usize,
-) -> io::Result<()>
-    requires { (p ≤ 24582) × (q ≤ 24582) × (room ≤ 4) }
-{
-    report::word(rt, b"recording,sized")?;
-    report::count(rt, p)?;
-    report::count(rt, q)?;
-    report::count(rt, room)?;
-    let x = many(3, 1000);
-    let y = many(4, 1000);
-    lend(rt, order, n, hops, hop, place, x, y, p, q, room)
+fn sized(rt: &impl Print, sample: Sample, p: usize, q: usize, room: usize) -> io::Result<()> {
+    let x: [i32; MANY] = coefficients(3, 1000);
+    let y: [i32; MANY] = coefficients(4, 1000);
+    print!(rt; "recording,sized,{p},{q},{room}")?;
+    lend(rt, sample, first(&x, p), first(&y, q), room)
 }
 
 // Hops and places outside the recording, and the last of each.
-fn outside(
-    rt: &impl Print,
-    order: Order,
-    n: usize,
-    m: usize,
-    hops: usize,
-    l: usize,
-) -> io::Result<()>
-    requires { (1 ≤ m) × (m ≤ 108) × (1 ≤ hops) × (hops ≤ 4095) × (l ≤ 24582) }
+fn outside(rt: &impl Print, of: Recording, l: usize) -> io::Result<()>
+    requires { (2 ≤ of.n) × (of.n ≤ 216) × (1 ≤ of.hops) × (of.hops ≤ 4095) }
 {
-    sized(rt, order, n, hops, hops, 0, l, l, 3)?;
-    sized(rt, order, n, hops, hops + 1, 0, l, l, 3)?;
-    sized(rt, order, n, hops, 4294967296, 0, l, l, 3)?;
-    sized(rt, order, n, hops, 18446744073709551615, 0, l, l, 3)?;
-    sized(rt, order, n, hops, 0, m, l, l, 3)?;
-    sized(rt, order, n, hops, 0, m + 1, l, l, 3)?;
-    sized(rt, order, n, hops, 0, 18446744073709551615, l, l, 3)?;
-    sized(rt, order, n, hops, hops - 1, m - 1, l, l, 3)
+    let m = of.n / 2;
+    let hops = of.hops;
+    for (hop, place) in [
+        (hops, 0),
+        (hops + 1, 0),
+        (4294967296, 0),
+        (18446744073709551615, 0),
+        (0, m),
+        (0, m + 1),
+        (0, 18446744073709551615),
+        (hops - 1, m - 1),
+    ] {
+        sized(rt, Sample { of, hop, place }, l, l, 3)?;
+    }
+    Ok(())
+}
+
+// The first sample of as many hops.
+fn front(of: Recording, hops: usize) -> Sample {
+    Sample {
+        of: Recording { hops, ..of },
+        hop: 0,
+        place: 0,
+    }
 }
 
 // Numbers of hops that are not those of the lists, some of which pass for them where upper bits are lost.
-fn counts(rt: &impl Print, order: Order, n: usize, hops: usize, l: usize) -> io::Result<()>
-    requires { (1 ≤ hops) × (hops ≤ 4095) × (l ≤ 24582) }
+fn counts(rt: &impl Print, of: Recording, l: usize) -> io::Result<()>
+    requires { (1 ≤ of.hops) × (of.hops ≤ 4095) }
 {
-    sized(rt, order, n, 0, 0, 0, l, l, 3)?;
-    sized(rt, order, n, hops - 1, 0, 0, l, l, 3)?;
-    sized(rt, order, n, hops + 1, 0, 0, l, l, 3)?;
-    sized(rt, order, n, 4294967296 + hops, 0, 0, l, l, 3)?;
-    sized(rt, order, n, 9223372036854775808 + hops, 0, 0, l, l, 3)?;
-    sized(rt, order, n, 18446744073709551615, 0, 0, 0, 0, 3)
+    for hops in [
+        0,
+        of.hops - 1,
+        of.hops + 1,
+        4294967296 + of.hops,
+        9223372036854775808 + of.hops,
+    ] {
+        sized(rt, front(of, hops), l, l, 3)?;
+    }
+    sized(rt, front(of, usize::MAX), 0, 0, 3)
 }
 
 // Lists that are one shorter, one longer or empty, and other rooms.
-fn lengths(rt: &impl Print, order: Order, n: usize, hops: usize, l: usize) -> io::Result<()>
+fn lengths(rt: &impl Print, of: Recording, l: usize) -> io::Result<()>
     requires { (1 ≤ l) × (l < 24582) }
 {
-    sized(rt, order, n, hops, 0, 0, l - 1, l, 3)?;
-    sized(rt, order, n, hops, 0, 0, l + 1, l, 3)?;
-    sized(rt, order, n, hops, 0, 0, 0, l, 3)?;
-    sized(rt, order, n, hops, 0, 0, l, l - 1, 3)?;
-    sized(rt, order, n, hops, 0, 0, l, l + 1, 3)?;
-    sized(rt, order, n, hops, 0, 0, l, 0, 3)?;
-    sized(rt, order, n, hops, 0, 0, l, l, 0)?;
-    sized(rt, order, n, hops, 0, 0, l, l, 2)?;
-    sized(rt, order, n, hops, 0, 0, l, l, 4)
+    for (p, q, room) in [
+        (l - 1, l, 3),
+        (l + 1, l, 3),
+        (0, l, 3),
+        (l, l - 1, 3),
+        (l, l + 1, 3),
+        (l, 0, 3),
+        (l, l, 0),
+        (l, l, 2),
+        (l, l, 4),
+    ] {
+        sized(rt, front(of, of.hops), p, q, room)?;
+    }
+    Ok(())
 }
 
 // The coefficient v in one place of both lists in turn.
-fn beyond(
-    rt: &impl Print,
-    order: Order,
-    n: usize,
-    hops: usize,
-    l: usize,
-    at: usize,
-    v: i32,
-) -> io::Result<()>
-    requires { l ≤ 24582 }
-{
-    let x = many(3, 1000);
-    let y = many(4, 1000);
-    report::word(rt, b"recording,original")?;
-    report::count(rt, at)?;
-    show_value(rt, v)?;
-    lend(rt, order, n, hops, 0, 1, with(x, at, v), y, l, l, 3)?;
-    report::word(rt, b"recording,changed")?;
-    report::count(rt, at)?;
-    show_value(rt, v)?;
-    lend(rt, order, n, hops, 0, 1, x, with(y, at, v), l, l, 3)
+fn beyond(rt: &impl Print, of: Recording, l: usize, at: usize, v: i32) -> io::Result<()> {
+    let x: [i32; MANY] = coefficients(3, 1000);
+    let y: [i32; MANY] = coefficients(4, 1000);
+    let sample = Sample {
+        of,
+        hop: 0,
+        place: 1,
+    };
+    print!(rt; "recording,original,{at},{v}")?;
+    lend(rt, sample, first(&with(x, at, v), l), first(&y, l), 3)?;
+    print!(rt; "recording,changed,{at},{v}")?;
+    lend(rt, sample, first(&x, l), first(&with(y, at, v), l), 3)
 }
 
 // In the first place, in the middle and in the last, which is far from the two blocks of the first hop; just behind it is not looked at, and at the limit taken.
-fn limits(rt: &impl Print, order: Order, n: usize, hops: usize, l: usize) -> io::Result<()>
-    requires { (1 ≤ l) × (l ≤ 24582) }
+fn limits(rt: &impl Print, of: Recording, l: usize) -> io::Result<()>
+    requires { 1 ≤ l }
 {
-    beyond(rt, order, n, hops, l, 0, BELOW)?;
-    beyond(rt, order, n, hops, l, l - 1, ABOVE)?;
-    beyond(rt, order, n, hops, l, l / 2, -2147483648)?;
-    beyond(rt, order, n, hops, l, l, ABOVE)?;
-    beyond(rt, order, n, hops, l, 0, BELOW + 1)?;
-    beyond(rt, order, n, hops, l, l - 1, ABOVE - 1)
-}
-
-fn refused_in(
-    rt: &impl Print,
-    order: Order,
-    n: usize,
-    m: usize,
-    hops: usize,
-    l: usize,
-) -> io::Result<()>
-    requires { (1 ≤ m) × (m ≤ 108) × (1 ≤ hops) × (hops ≤ 4095) × (1 ≤ l) × (l < 24582) }
-{
-    outside(rt, order, n, m, hops, l)?;
-    counts(rt, order, n, hops, l)?;
-    lengths(rt, order, n, hops, l)?;
-    limits(rt, order, n, hops, l)
-}
-
-fn refused(rt: &impl Print, n: usize, m: usize, hops: usize, l: usize) -> io::Result<()>
-    requires { (1 ≤ m) × (m ≤ 108) × (1 ≤ hops) × (hops ≤ 4095) × (1 ≤ l) × (l < 24582) }
-{
-    refused_in(rt, Order::ByBlock, n, m, hops, l)?;
-    refused_in(rt, Order::ByFrequency, n, m, hops, l)
-}
-
-fn damaged_hop(choice: usize) -> usize {
-    if has(choice, 2) {
-        return 3;
+    for (at, v) in [
+        (0, BELOW),
+        (l - 1, ABOVE),
+        (l / 2, i32::MIN),
+        (l, ABOVE),
+        (0, BELOW + 1),
+        (l - 1, ABOVE - 1),
+    ] {
+        beyond(rt, of, l, at, v)?;
     }
-    2
+    Ok(())
+}
+
+fn refused(rt: &impl Print, n: usize, hops: usize, l: usize) -> io::Result<()>
+    requires { (2 ≤ n) × (n ≤ 216) × (1 ≤ hops) × (hops ≤ 4095) × (1 ≤ l) × (l < 24582) }
+{
+    for order in ORDERS {
+        let of = Recording { order, n, hops };
+        outside(rt, of, l)?;
+        counts(rt, of, l)?;
+        lengths(rt, of, l)?;
+        limits(rt, of, l)?;
+    }
+    Ok(())
 }
 
 // Three hops of N = 24, of which the last is meant, with a choice of causes: the coefficient is one of block 0.
 fn causes_of(rt: &impl Print, order: Order, choice: usize) -> io::Result<()> {
-    let l = damaged_length(48, choice);
-    let y = with(many(4, 1000), 0, damaged_value(choice));
-    report::word(rt, b"recording,causes")?;
-    report::count(rt, choice)?;
+    let causes = causes_by(choice);
+    let of = Recording {
+        order,
+        n: either(causes.length, 25, 24),
+        hops: 3,
+    };
+    let sample = Sample {
+        of,
+        hop: either(causes.shape_or_hop, 3, 2),
+        place: either(causes.place, 12, 11),
+    };
+    let l = either(causes.lists, 47, 48);
+    let x: [i32; MANY] = coefficients(3, 1000);
+    let y: [i32; MANY] = with(
+        coefficients(4, 1000),
+        0,
+        either(causes.coefficient, BELOW, 0),
+    );
+    print!(rt; "recording,causes,{choice}")?;
     lend(
         rt,
-        order,
-        damaged_n(24, choice),
-        3,
-        damaged_hop(choice),
-        damaged_place(12, choice),
-        many(3, 1000),
-        y,
-        l,
-        l,
-        damaged_room(choice),
+        sample,
+        first(&x, l),
+        first(&y, l),
+        either(causes.room, 4, 3),
     )
 }
 
 // Every choice of the causes: the first in their order is answered.
 fn causes(rt: &impl Print) -> io::Result<()> {
     for choice in 0..CHOICES {
-        causes_of(rt, Order::ByBlock, choice)?;
-        causes_of(rt, Order::ByFrequency, choice)?;
+        for order in ORDERS {
+            causes_of(rt, order, choice)?;
+        }
     }
     Ok(())
 }
@@ -409,34 +281,52 @@ fn causes(rt: &impl Print) -> io::Result<()> {
 fn untabled(rt: &impl Print, n: usize, m: usize) -> io::Result<()>
     requires { m ≤ 108 }
 {
-    sized(rt, Order::ByBlock, n, 2, 0, 0, 3 * m, 3 * m, 3)?;
-    sized(rt, Order::ByFrequency, n, 2, 0, 0, 3 * m, 3 * m, 3)?;
-    sized(rt, Order::ByFrequency, n, 0, 9, 9, 0, 0, 4)
+    for order in ORDERS {
+        let of = Recording { order, n, hops: 2 };
+        sized(rt, front(of, 2), 3 * m, 3 * m, 3)?;
+    }
+    let none = Sample {
+        of: Recording {
+            order: Order::ByFrequency,
+            n,
+            hops: 0,
+        },
+        hop: 9,
+        place: 9,
+    };
+    sized(rt, none, 0, 0, 4)
 }
 
 // Recordings of 1, 2, 3 and the most hops, at the shortest length and at others.
 fn taken(rt: &impl Print) -> io::Result<()> {
-    over(rt, 12, 6, 1, 12)?;
-    over(rt, 12, 6, 2, 18)?;
-    over(rt, 12, 6, 3, 24)?;
-    over(rt, 12, 6, 4095, 24576)?;
-    over(rt, 24, 12, 2, 36)?;
-    over(rt, 36, 18, 3, 72)?;
-    over(rt, 72, 36, 3, 144)?;
-    over(rt, 72, 36, 681, 24552)?;
-    over(rt, 108, 54, 2, 162)?;
-    over(rt, 216, 108, 1, 216)?;
-    over(rt, 216, 108, 3, 432)?;
-    over(rt, 216, 108, 226, 24516)
+    over(rt, 12, 1)?;
+    over(rt, 12, 2)?;
+    over(rt, 12, 3)?;
+    over(rt, 12, 4095)?;
+    over(rt, 24, 2)?;
+    over(rt, 36, 3)?;
+    over(rt, 72, 3)?;
+    over(rt, 72, 681)?;
+    over(rt, 108, 2)?;
+    over(rt, 216, 1)?;
+    over(rt, 216, 3)?;
+    over(rt, 216, 226)
 }
 
 fn turned_away(rt: &impl Print) -> io::Result<()> {
-    refused(rt, 12, 6, 3, 24)?;
-    refused(rt, 12, 6, 4095, 24576)?;
-    refused(rt, 72, 36, 2, 108)?;
-    refused(rt, 216, 108, 3, 432)?;
-    sized(rt, Order::ByBlock, 12, 4096, 0, 0, 24582, 24582, 3)?;
-    sized(rt, Order::ByFrequency, 12, 4096, 0, 0, 24582, 24582, 3)
+    refused(rt, 12, 3, 24)?;
+    refused(rt, 12, 4095, 24576)?;
+    refused(rt, 72, 2, 108)?;
+    refused(rt, 216, 3, 432)?;
+    for order in ORDERS {
+        let of = Recording {
+            order,
+            n: 12,
+            hops: 4096,
+        };
+        sized(rt, front(of, 4096), 24582, 24582, 3)?;
+    }
+    Ok(())
 }
 
 pub fn recordings(rt: &impl Print) -> io::Result<()> {
@@ -448,5 +338,5 @@ pub fn recordings(rt: &impl Print) -> io::Result<()> {
     untabled(rt, 48, 24)?;
     untabled(rt, 144, 72)?;
     untabled(rt, 217, 108)?;
-    untabled(rt, 18446744073709551615, 36)
+    untabled(rt, usize::MAX, 36)
 }

@@ -1,12 +1,16 @@
 // Streams through the public calls, step after step, compared with what vectors/stream.py makes from the definitions.
 #![tactic(auto)]
 
-ghost use Rattle.std.specs.Prelude.{◌≤◌, ◌<◌, ◌^◌, IfOk};
+ghost use Rattle.std.specs.Prelude.{◌≤◌, ◌<◌, ◌^◌};
 
-use analysis::Route;
-use state_calls::ENTRIES;
-use std::io;
-use stream::Stream;
+use bank_report::streams::{
+    ENTRIES, block_of, forged, forged_state, fresh, fresh_state, joints_of, route_of, stepped,
+};
+use bank_report::{ABOVE, BELOW, LEAST, LENGTHS, LONG, LONG_JOINTS, MOST, SHORT, code};
+use filter_bank::{Joints, Offer, Stream};
+use report::buffers::{alternating, differing, first, first_of, with};
+use report::{Entries, noise};
+use std::{fmt, io};
 
 // Room for a hop of the longest block, for a state, and for buffers that are too long.
 const ROOM: usize = 112;
@@ -19,37 +23,10 @@ const SHOWN_TAIL: usize = 18;
 // An entry of a tail that is heard in the samples.
 const HEARD: i64 = 1099511627776;
 
-// The ends of a coefficient's range, and one beyond.
-const MOST: i32 = 536870912;
-
-const LEAST: i32 = -536870912;
-
-const ABOVE: i32 = 536870913;
-
-const BELOW: i32 = -536870913;
-
-// Bits of the even places, of the odd ones, and of all.
-const EVEN: u64 = 1;
-
-const ODD: u64 = 2;
-
-const EVERY: u64 = 3;
-
 // Blocks of a long stream, and of one that is played back.
 const BLOCKS: usize = 12;
 
 const PLAYED: usize = 48;
-
-// A block of the longest length.
-const LONGEST: usize = 216;
-
-// The shapes of a joint.
-const LONG: u32 = 0;
-
-const SHORT: u32 = 1;
-
-// The shapes of the joints before blocks 0 to 16, of which the last is again the first: every span of a block meets every pair of shapes.
-const JOINTS: [u32; 17] = [0, 1, 1, 0, 0, 0, 1, 1, 1, 1, 0, 0, 1, 0, 0, 1, 0];
 
 // Numbers of blocks in the order in which they are offered: as they follow, shuffled until all are taken, repeated, the first one late, and
 // without block 1.
@@ -68,331 +45,245 @@ const AROUND_LAST: [u32; 5] = [4294967294, 0, 4294967295, 0, 4294967295];
 
 const AROUND_MIDDLE: [u32; 3] = [2147483648, 2147483647, 2147483648];
 
-// An entry is shown, or behind the first ones put into a sum.
-fn show_entry(rt: &impl Print, h: u64, i: usize, most: usize, v: i64) -> io::Result<u64>
-    requires { h < 2 ^ 32 }
-    ensures { IfOk result (λ then. then < 2 ^ 32) }
-{
-    if i < most {
-        report::field(rt, v)?;
-        return Ok(h);
+// The first entries of a tail or of a state, each behind a comma, and the sum of the others.
+#[derive(Clone, Copy)]
+struct Beginning<'a> {
+    of: &'a [i64],
+    most: usize,
+}
+
+impl<'a> fmt::Display for Beginning<'a> {
+    fn fmt<W: fmt::Write>(&self, f: &mut fmt::Formatter<W>) -> fmt::Result {
+        let (shown, others) = self.of.split_at(self.most.min(self.of.len()));
+        for entry in shown {
+            let entry = *entry;
+            write!(f, ",{entry}")?;
+        }
+        let sum = report::sum(others);
+        write!(f, ",{sum}")
     }
-    Ok(report::summed(h, v))
 }
 
-// The first entries, the sum of the others, and the line's end.
-fn show_entries(rt: &impl Print, entries: &[i64], most: usize) -> io::Result<()> {
-    let mut h = 0;
-    for i in 0..entries.len() {
-        h = show_entry(rt, h, i, most, entries[i])?;
+// What takes steps: a stream by value, or a state in place.
+trait Steps {
+    // The number of the answer.
+    fn step(&mut self, offer: Offer, x: &[i32], out: &mut [i16]) -> u32;
+
+    fn show(&self, rt: &impl Print) -> io::Result<()>;
+}
+
+impl Steps for Stream {
+    fn step(&mut self, offer: Offer, x: &[i32], out: &mut [i16]) -> u32 {
+        let (next, code) = stepped(filter_bank::step(*self, offer, x, out));
+        *self = next;
+        code
     }
-    report::count(rt, h as usize)?;
-    report::end(rt)
+
+    fn show(&self, rt: &impl Print) -> io::Result<()> {
+        let tail = Beginning {
+            of: &self.tail,
+            most: SHOWN_TAIL,
+        };
+        println!(rt; "stream,{},{},{}{tail}", self.n, self.expected, self.shape)
+    }
 }
 
-fn show_stream(rt: &impl Print, s: Stream) -> io::Result<()> {
-    report::word(rt, b"stream")?;
-    report::count(rt, s.n)?;
-    report::count(rt, s.expected as usize)?;
-    report::count(rt, s.shape as usize)?;
-    let tail = s.tail;
-    show_entries(rt, &tail, SHOWN_TAIL)
+// A state, which shows as many entries of its tail.
+#[derive(Drop)]
+struct State<'a> {
+    entries: &'a mut [i64],
 }
 
-// A state with as many entries of its tail.
-fn show_state(rt: &impl Print, state: &[i64]) -> io::Result<()> {
-    report::word(rt, b"state")?;
-    show_entries(rt, state, SHOWN_TAIL + 3)
+impl<'a> Steps for State<'a> {
+    fn step(&mut self, offer: Offer, x: &[i32], out: &mut [i16]) -> u32 {
+        code(&filter_bank::step_in_place(self.entries, offer, x, out))
+    }
+
+    fn show(&self, rt: &impl Print) -> io::Result<()> {
+        let entries = Beginning {
+            of: self.entries,
+            most: SHOWN_TAIL + 3,
+        };
+        println!(rt; "state{entries}")
+    }
 }
 
-// What a step answers: its number, and the buffer.
-fn show_out(rt: &impl Print, code: u32, out: &[i16]) -> io::Result<()> {
-    report::word(rt, b"out")?;
-    report::count(rt, code as usize)?;
-    report::samples(rt, out, SHOWN)
-}
-
-fn told(
-    rt: &impl Print,
-    s: Stream,
-    number: u32,
-    left: u32,
-    right: u32,
-    x: &[i32],
-    out: &mut [i16],
-) -> io::Result<Stream> {
-    let r = filter_bank::step(s, number, left, right, x, out);
-    let next = r.stream;
-    show_out(rt, r.code, out)?;
-    show_stream(rt, next)?;
-    Ok(next)
-}
-
-// A step on the first m entries of x, under a number and the shapes of its joints, and a buffer of l marks.
-fn offer_as(
-    rt: &impl Print,
-    s: Stream,
-    number: u32,
-    left: u32,
-    right: u32,
+// A step as it is offered: the first entries of a block, under its number and between its joints, and a buffer of as many marks.
+#[derive(Clone, Copy)]
+struct Step {
+    offer: Offer,
     x: [i32; ROOM],
-    m: usize,
-    l: usize,
-) -> io::Result<Stream>
-    requires { (m ≤ 112) × (l ≤ 112) }
-{
-    let mut out = [12345; ROOM];
-    told(rt, s, number, left, right, &x[..m], &mut out[..l])
+    entries: usize,
+    marks: usize,
 }
 
-// The number that a stream expects. 0 where it expects none.
-fn due(s: Stream) -> u32 {
-    let expected = s.expected;
-    if expected < 4294967296 {
-        return expected as u32;
+// A step whose buffers have m entries.
+fn step_of(number: u32, joints: Joints, x: [i32; ROOM], m: usize) -> Step {
+    Step {
+        offer: Offer { number, joints },
+        x,
+        entries: m,
+        marks: m,
     }
-    0
 }
 
-// A step under the number and the left shape that the stream expects.
+// What a step answers, the buffer, and what is left of the stream.
+fn tried<S: Steps>(rt: &impl Print, s: &mut S, step: Step) -> io::Result<()> {
+    let mut room = [12345; ROOM];
+    let out = first_of(&mut room, step.marks);
+    let code = s.step(step.offer, first(&step.x, step.entries), out);
+    let hop = Entries {
+        of: out,
+        most: SHOWN,
+    };
+    println!(rt; "out,{code}{hop}")?;
+    s.show(rt)
+}
+
+// A step under the number and the left shape that the stream expects. Number 0 where it expects none.
+fn due(s: &Stream, right: u32, x: [i32; ROOM], m: usize) -> Step {
+    let number = u32::try_from(s.expected).unwrap_or(0);
+    let left = s.shape;
+    step_of(number, Joints { left, right }, x, m)
+}
+
 fn offer_to(
     rt: &impl Print,
-    s: Stream,
+    s: &mut Stream,
     right: u32,
     x: [i32; ROOM],
     m: usize,
-    l: usize,
-) -> io::Result<Stream>
-    requires { (m ≤ 112) × (l ≤ 112) }
-{
-    offer_as(rt, s, due(s), s.shape, right, x, m, l)
-}
-
-fn offer(rt: &impl Print, s: Stream, x: [i32; ROOM], m: usize, l: usize) -> io::Result<Stream>
-    requires { (m ≤ 112) × (l ≤ 112) }
-{
-    offer_to(rt, s, LONG, x, m, l)
-}
-
-// The steps under a number and shapes, in place.
-fn told_in_place(
-    rt: &impl Print,
-    state: &mut [i64],
-    number: u32,
-    left: u32,
-    right: u32,
-    x: &[i32],
-    out: &mut [i16],
 ) -> io::Result<()> {
-    let code = filter_bank::step_in_place(state, number, left, right, x, out);
-    show_out(rt, code, out)?;
-    show_state(rt, state)
+    let step = due(s, right, x, m);
+    tried(rt, s, step)
 }
 
-fn offer_in_place(
+fn offer(rt: &impl Print, s: &mut Stream, x: [i32; ROOM], m: usize) -> io::Result<()> {
+    offer_to(rt, s, LONG, x, m)
+}
+
+// Of the first entries of a block, with a buffer of as many marks.
+fn offer_sized(
     rt: &impl Print,
-    state: &mut [i64],
-    number: u32,
-    left: u32,
-    right: u32,
+    s: &mut Stream,
     x: [i32; ROOM],
-    m: usize,
-    l: usize,
-) -> io::Result<()>
-    requires { (m ≤ 112) × (l ≤ 112) }
-{
-    let mut out = [12345; ROOM];
-    told_in_place(rt, state, number, left, right, &x[..m], &mut out[..l])
-}
-
-// Noise of a seed and a span.
-fn noise(seed: u64, span: u64) -> [i32; ROOM]
-    requires { (seed < 2 ^ 32) × (span < 2 ^ 30) }
-{
-    let mut x = [0; ROOM];
-    let mut r = seed;
-    for k in 0..ROOM {
-        r = report::noise::random(r);
-        x[k] = report::noise::offset(r, span);
-    }
-    x
-}
-
-// As loud as a block can be: entry k is at the lower end where the bit of its place is set in `signs`, and at the upper end elsewhere.
-fn loud(signs: u64) -> [i32; ROOM] {
-    let mut x = [0; ROOM];
-    for k in 0..ROOM {
-        let bit = if k % 2 == 0 { signs % 2 } else { signs / 2 };
-        x[k] = if bit == 1 { LEAST } else { MOST };
-    }
-    x
-}
-
-// A block with one entry put in place of its own.
-fn with(x: [i32; ROOM], k: usize, v: i32) -> [i32; ROOM]
-    requires { k < 112 }
-{
-    let mut r = x;
-    r[k] = v;
-    r
+    entries: usize,
+    marks: usize,
+) -> io::Result<()> {
+    let step = Step {
+        marks,
+        ..due(s, LONG, x, entries)
+    };
+    tried(rt, s, step)
 }
 
 // Quiet, at the edge of the samples' range, and loud, block by block.
-fn span(b: usize) -> u64
+fn span(b: usize) -> u32
     ensures { result < 2 ^ 30 }
 {
-    let kind = b % 4;
-    if kind == 0 {
-        return 1048576;
+    match b % 4 {
+        0 => 1048576,
+        1 => 6000000,
+        2 => 5000,
+        _ => 536870912,
     }
-    if kind == 1 {
-        return 6000000;
-    }
-    if kind == 2 {
-        return 5000;
-    }
-    536870912
 }
 
-// A step that is refused: by the length of either buffer, by a coefficient, by both (kinds 0 to 3), by its left shape, which is the other one
-// or above 1, or by its right one (kinds 4 to 7). What it is handed: the block, how many entries of it, how many marks, and the shapes.
-fn spoilt(x: [i32; ROOM], m: usize, kind: usize) -> [i32; ROOM]
-    requires { (1 ≤ m) × (m ≤ 108) }
-{
-    if kind == 2 {
-        return with(x, m - 1, ABOVE);
-    }
-    if kind == 3 {
-        return with(x, 0, BELOW);
-    }
-    x
+// Why a step is refused.
+#[derive(Clone, Copy)]
+enum Damage {
+    // The length of either buffer.
+    FewEntries,
+    ManyMarks,
+    // A coefficient, alone and with a length.
+    Above,
+    BelowAndFewMarks,
+    // The left shape, which is the other one or above 1.
+    OtherLeft,
+    NoLeft,
+    // The right one.
+    NoRight,
+    FarRight,
 }
 
-fn entries(m: usize, kind: usize) -> usize
-    requires { 1 ≤ m }
-    ensures { result ≤ m }
-{
-    if kind == 0 {
-        return m - 1;
-    }
-    m
-}
-
-fn space(m: usize, kind: usize) -> usize
-    requires { (1 ≤ m) × (m ≤ 108) }
-    ensures { result ≤ 109 }
-{
-    if kind == 1 {
-        return m + 1;
-    }
-    if kind == 3 {
-        return m - 1;
-    }
-    m
-}
+const DAMAGES: [Damage; 8] = [
+    Damage::FewEntries,
+    Damage::ManyMarks,
+    Damage::Above,
+    Damage::BelowAndFewMarks,
+    Damage::OtherLeft,
+    Damage::NoLeft,
+    Damage::NoRight,
+    Damage::FarRight,
+];
 
 fn other(shape: u32) -> u32 {
-    if shape == LONG {
-        return SHORT;
-    }
-    LONG
+    if shape == LONG { SHORT } else { LONG }
 }
 
-fn bent_left(left: u32, kind: usize) -> u32 {
-    if kind == 4 {
-        return other(left);
+fn between(step: Step, left: u32, right: u32) -> Step {
+    let joints = Joints { left, right };
+    Step {
+        offer: Offer {
+            joints,
+            ..step.offer
+        },
+        ..step
     }
-    if kind == 5 {
-        return 2;
-    }
-    left
 }
 
-fn bent_right(right: u32, kind: usize) -> u32 {
-    if kind == 6 {
-        return 2;
+// The step, damaged: one with buffers of the same length.
+fn spoilt(step: Step, damage: Damage) -> Step {
+    let m = step.entries;
+    let less = m.saturating_sub(1);
+    let Joints { left, right } = step.offer.joints;
+    match damage {
+        Damage::FewEntries => Step {
+            entries: less,
+            ..step
+        },
+        Damage::ManyMarks => Step {
+            marks: m.saturating_add(1),
+            ..step
+        },
+        Damage::Above => Step {
+            x: with(step.x, less, ABOVE),
+            ..step
+        },
+        Damage::BelowAndFewMarks => Step {
+            x: with(step.x, 0, BELOW),
+            marks: less,
+            ..step
+        },
+        Damage::OtherLeft => between(step, other(left), right),
+        Damage::NoLeft => between(step, 2, right),
+        Damage::NoRight => between(step, left, 2),
+        Damage::FarRight => between(step, left, u32::MAX),
     }
-    if kind == 7 {
-        return 4294967295;
-    }
-    right
 }
 
-fn refused_as(
+fn refused(
     rt: &impl Print,
-    s: Stream,
-    number: u32,
-    left: u32,
-    right: u32,
+    s: &mut Stream,
     x: [i32; ROOM],
     m: usize,
-    kind: usize,
-) -> io::Result<Stream>
-    requires { (1 ≤ m) × (m ≤ 108) }
-{
-    offer_as(
-        rt,
-        s,
-        number,
-        bent_left(left, kind),
-        bent_right(right, kind),
-        spoilt(x, m, kind),
-        entries(m, kind),
-        space(m, kind),
-    )
-}
-
-fn refused(rt: &impl Print, s: Stream, x: [i32; ROOM], m: usize, kind: usize) -> io::Result<Stream>
-    requires { (1 ≤ m) × (m ≤ 108) }
-{
-    refused_as(rt, s, due(s), s.shape, LONG, x, m, kind)
-}
-
-fn refused_in_place(
-    rt: &impl Print,
-    state: &mut [i64],
-    number: u32,
-    left: u32,
-    right: u32,
-    x: [i32; ROOM],
-    m: usize,
-    kind: usize,
-) -> io::Result<()>
-    requires { (1 ≤ m) × (m ≤ 108) }
-{
-    offer_in_place(
-        rt,
-        state,
-        number,
-        bent_left(left, kind),
-        bent_right(right, kind),
-        spoilt(x, m, kind),
-        entries(m, kind),
-        space(m, kind),
-    )
-}
-
-// The shapes of a block's joints, by its number.
-fn left_of(number: u32) -> u32 {
-    let i = number as usize % 16;
-    JOINTS[i]
-}
-
-fn right_of(number: u32) -> u32 {
-    let i = number as usize % 16 + 1;
-    JOINTS[i]
+    damage: Damage,
+) -> io::Result<()> {
+    let step = spoilt(due(s, LONG, x, m), damage);
+    tried(rt, s, step)
 }
 
 // A long stream: a refused step first and after every block.
-fn long(rt: &impl Print, n: usize, m: usize) -> io::Result<()>
-    requires { (n ≤ 216) × (1 ≤ m) × (m ≤ 108) }
+fn long(rt: &impl Print, n: usize) -> io::Result<()>
+    requires { n ≤ 216 }
 {
-    let made = filter_bank::fresh(n);
-    let mut s = refused(rt, made.stream, loud(0), m, 2)?;
+    let m = n / 2;
+    let mut s = fresh(n);
+    refused(rt, &mut s, [MOST; ROOM], m, Damage::Above)?;
     for b in 0..BLOCKS {
-        let x = noise((100 * n + b) as u64, span(b));
-        s = offer_to(rt, s, right_of(b as u32), x, m, m)?;
-        s = refused(rt, s, x, m, b % 8)?;
+        let x = noise::coefficients((100 * n + b) as u32, span(b));
+        offer_to(rt, &mut s, joints_of(b as u32).right, x, m)?;
+        refused(rt, &mut s, x, m, DAMAGES[b % 8])?;
     }
     Ok(())
 }
@@ -402,348 +293,179 @@ fn block(n: usize, number: u32) -> [i32; ROOM]
     requires { n ≤ 216 }
 {
     let b = number as usize % 100;
-    noise((200 * n + b) as u64, span(b))
+    noise::coefficients((200 * n + b) as u32, span(b))
 }
 
-// The kind of damage at a place of a list: in a long one every kind meets more than one span.
-fn damage(i: usize) -> usize {
-    (i % 8 + i / 8 % 8) % 8
+// The damage at a place of a list: in a long one every kind meets more than one span.
+fn damage_at(i: usize) -> Damage {
+    DAMAGES[(i % 8 + i / 8 % 8) % 8]
 }
 
 // A block in place, with a damaged one under the same number before it, and by value: both answers are the same.
 fn either_way(
     rt: &impl Print,
     n: usize,
-    m: usize,
-    s: Stream,
-    state: &mut [i64],
+    s: &mut Stream,
+    state: &mut State,
     number: u32,
-    kind: usize,
-) -> io::Result<Stream>
-    requires { (n ≤ 216) × (1 ≤ m) × (m ≤ 108) }
+    damage: Damage,
+) -> io::Result<()>
+    requires { n ≤ 216 }
 {
-    let left = left_of(number);
-    let right = right_of(number);
-    let x = block(n, number);
-    refused_in_place(rt, state, number, left, right, x, m, kind)?;
-    offer_in_place(rt, state, number, left, right, x, m, m)?;
-    offer_as(rt, s, number, left, right, x, m, m)
+    let step = step_of(number, joints_of(number), block(n, number), n / 2);
+    tried(rt, state, spoilt(step, damage))?;
+    tried(rt, state, step)?;
+    tried(rt, s, step)
 }
 
 // Blocks in an order.
 fn beside(
     rt: &impl Print,
     n: usize,
-    m: usize,
-    s: Stream,
-    state: &mut [i64],
+    stream: Stream,
+    entries: [i64; ENTRIES],
     order: &[u32],
 ) -> io::Result<()>
-    requires { (n ≤ 216) × (1 ≤ m) × (m ≤ 108) }
+    requires { n ≤ 216 }
 {
-    let mut t = s;
-    for i in 0..order.len() {
-        t = either_way(rt, n, m, t, state, order[i], damage(i))?;
+    let mut s = stream;
+    let mut held = entries;
+    let mut state = State { entries: &mut held };
+    for (i, number) in order.iter().enumerate() {
+        either_way(rt, n, &mut s, &mut state, *number, damage_at(i))?;
     }
     Ok(())
-}
-
-fn fresh_state(n: usize) -> [i64; ENTRIES] {
-    let mut state = [7; ENTRIES];
-    filter_bank::fresh_in_place(n, &mut state);
-    state
 }
 
 // The same blocks to a fresh stream.
-fn fresh_beside(rt: &impl Print, n: usize, m: usize, order: &[u32]) -> io::Result<()>
-    requires { (n ≤ 216) × (1 ≤ m) × (m ≤ 108) }
+fn fresh_beside(rt: &impl Print, n: usize, order: &[u32]) -> io::Result<()>
+    requires { n ≤ 216 }
 {
-    let made = filter_bank::fresh(n);
-    let mut state = fresh_state(n);
-    beside(rt, n, m, made.stream, &mut state, order)
-}
-
-// A forged stream, all its tail entries v.
-fn alike(n: usize, expected: u64, shape: u32, v: i64) -> Stream {
-    Stream {
-        n: n,
-        expected: expected,
-        shape: shape,
-        tail: [v; stream::STORAGE],
-    }
+    beside(rt, n, fresh(n), fresh_state(n), order)
 }
 
 // And to a fresh one that is made to expect another number, and the left shape of its block.
-fn forged_beside(
-    rt: &impl Print,
-    n: usize,
-    m: usize,
-    expected: u32,
-    order: &[u32],
-) -> io::Result<()>
-    requires { (n ≤ 216) × (1 ≤ m) × (m ≤ 108) }
+fn forged_beside(rt: &impl Print, n: usize, expected: u32, order: &[u32]) -> io::Result<()>
+    requires { n ≤ 216 }
 {
-    let shape = left_of(expected);
-    let s = alike(n, expected as u64, shape, 0);
+    let shape = joints_of(expected).left;
+    let s = forged(n, expected as u64, shape, 0);
     let mut state = fresh_state(n);
     state[1] = expected as i64;
     state[2] = shape as i64;
-    beside(rt, n, m, s, &mut state, order)
+    beside(rt, n, s, state, order)
 }
 
-fn orders(rt: &impl Print, n: usize, m: usize) -> io::Result<()>
-    requires { (n ≤ 216) × (1 ≤ m) × (m ≤ 108) }
+fn orders(rt: &impl Print, n: usize) -> io::Result<()>
+    requires { n ≤ 216 }
 {
-    fresh_beside(rt, n, m, &ORDERED)?;
-    fresh_beside(rt, n, m, &SHUFFLED)?;
-    fresh_beside(rt, n, m, &REPEATED)?;
-    fresh_beside(rt, n, m, &LATE)?;
-    fresh_beside(rt, n, m, &MISSING)?;
-    forged_beside(rt, n, m, 4294967295, &AROUND_LAST)?;
-    forged_beside(rt, n, m, 2147483647, &AROUND_MIDDLE)
+    fresh_beside(rt, n, &ORDERED)?;
+    fresh_beside(rt, n, &SHUFFLED)?;
+    fresh_beside(rt, n, &REPEATED)?;
+    fresh_beside(rt, n, &LATE)?;
+    fresh_beside(rt, n, &MISSING)?;
+    forged_beside(rt, n, 4294967295, &AROUND_LAST)?;
+    forged_beside(rt, n, 2147483647, &AROUND_MIDDLE)
 }
 
-// All of the range, the loudest samples alone, and two softer parts of the range, hop by hop.
-fn sound_span(h: usize) -> u64
-    ensures { result ≤ 32768 }
+// Block b, which covers hops b and b + 1, analysed and played back: the numbers of its analysis, of a step with the other left shape and of its own, and how
+// many samples of hop b did not come back.
+fn play(rt: &impl Print, s: &mut Stream, n: usize, b: usize) -> io::Result<()>
+    requires { (n ≤ 216) × (b < 48) }
 {
-    let kind = h % 4;
-    if kind == 0 {
-        return 32768;
-    }
-    if kind == 1 {
-        return 0;
-    }
-    if kind == 2 {
-        return 100;
-    }
-    2
-}
-
-// Hop h of what is played back, in the first places.
-fn sound(n: usize, h: usize) -> [i16; LONGEST]
-    requires { (n ≤ 216) × (h ≤ 48) }
-{
-    let mut x = [0; LONGEST];
-    report::noise::fill(&mut x, (300 * n + h) as u64, sound_span(h));
-    x
-}
-
-// The block that covers two hops.
-fn joined(first: [i16; LONGEST], second: [i16; LONGEST], m: usize) -> [i16; LONGEST]
-    requires { m ≤ 108 }
-{
-    let mut x = first;
-    for i in 0..m {
-        x[m + i] = second[i];
-    }
-    x
-}
-
-// Every third block goes by the short route, and every third by the double one, where they are offered.
-fn route_of(n: usize, b: usize) -> Route {
-    let kind = b % 3;
-    if n > 72 {
-        return Route::Direct;
-    }
-    if kind == 2 {
-        return Route::Short;
-    }
-    if n < 36 {
-        return Route::Direct;
-    }
-    if kind == 1 {
-        return Route::Double;
-    }
-    Route::Direct
-}
-
-fn show_block(rt: &impl Print, n: usize, b: usize, left: u32, right: u32) -> io::Result<()> {
-    report::word(rt, b"back")?;
-    report::count(rt, n)?;
-    report::count(rt, b)?;
-    report::count(rt, left as usize)?;
-    report::count(rt, right as usize)
-}
-
-fn show_code(rt: &impl Print, code: u32) -> io::Result<()> {
-    report::count(rt, code as usize)
-}
-
-// The coefficients of a block, with the number that its analysis answers.
-fn analysed(
-    rt: &impl Print,
-    n: usize,
-    m: usize,
-    b: usize,
-    left: u32,
-    right: u32,
-    x: [i16; LONGEST],
-) -> io::Result<[i32; stream::STORAGE]>
-    requires { (n ≤ 216) × (m ≤ 108) }
-{
-    let mut c = [0; stream::STORAGE];
-    let code = filter_bank::analyse(route_of(n, b), n, left, right, &x[..n], &mut c[..m]);
-    show_code(rt, code)?;
-    Ok(c)
-}
-
-fn unlike(v: i16, w: i16) -> usize
-    ensures { result ≤ 1 }
-{
-    if v == w {
-        return 0;
-    }
-    1
-}
-
-// How many samples of a hop did not come back.
-fn differing(hop: &[i16], out: &[i16]) -> usize {
-    if hop.len() != out.len() {
-        return hop.len();
-    }
-    let mut count = 0;
-    for i in 0..hop.len() {
-        count += unlike(hop[i], out[i]);
-    }
-    count
-}
-
-// Two steps on these coefficients, of which the first has the other left shape: their numbers, and how many samples did not come back.
-fn returned(
-    rt: &impl Print,
-    s: Stream,
-    number: u32,
-    left: u32,
-    right: u32,
-    c: &[i32],
-    hop: &[i16],
-    out: &mut [i16],
-) -> io::Result<Stream> {
-    let wrong = filter_bank::step(s, number, other(left), right, c, out);
-    show_code(rt, wrong.code)?;
-    let r = filter_bank::step(wrong.stream, number, left, right, c, out);
-    let next = r.stream;
-    show_code(rt, r.code)?;
-    report::count(rt, differing(hop, out))?;
-    report::end(rt)?;
-    Ok(next)
-}
-
-// Block b, which covers hops b and b + 1: step b returns hop b, but for the run-in.
-fn play(rt: &impl Print, s: Stream, n: usize, m: usize, b: usize) -> io::Result<Stream>
-    requires { (n ≤ 216) × (m ≤ 108) × (b < 48) }
-{
+    let m = n / 2;
     let number = b as u32;
-    let left = left_of(number);
-    let right = right_of(number);
-    let hop = sound(n, b);
-    let x = joined(hop, sound(n, b + 1), m);
-    show_block(rt, n, b, left, right)?;
-    let c = analysed(rt, n, m, b, left, right, x)?;
-    let mut out = [12345; stream::STORAGE];
-    returned(
-        rt,
-        s,
-        number,
-        left,
+    let joints = joints_of(number);
+    let Joints { left, right } = joints;
+    let bent = Joints {
+        left: other(left),
         right,
-        &c[..m],
-        &hop[..m],
-        &mut out[..m],
-    )
+    };
+    let x = block_of(n, b, 2);
+    let mut spectrum = [0; stream::STORAGE];
+    let c = first_of(&mut spectrum, m);
+    let analysed = code(&filter_bank::analyse(route_of(n, b), n, joints, first(&x, n), c));
+    let mut room = [12345; stream::STORAGE];
+    let out = first_of(&mut room, m);
+    let bent = s.step(
+        Offer {
+            number,
+            joints: bent,
+        },
+        c,
+        out,
+    );
+    let taken = s.step(Offer { number, joints }, c, out);
+    let lost = differing(first(&x, m), out);
+    println!(rt; "back,{n},{b},{left},{right},{analysed},{bent},{taken},{lost}")
 }
 
-// Sound that is analysed and played back, block after block, in a mixture of shapes and routes.
-fn played(rt: &impl Print, n: usize, m: usize) -> io::Result<()>
-    requires { (n ≤ 216) × (m ≤ 108) }
+// Sound that is analysed and played back, block after block, in a mixture of shapes and routes: step b returns hop b, but for the run-in.
+fn played(rt: &impl Print, n: usize) -> io::Result<()>
+    requires { n ≤ 216 }
 {
-    let made = filter_bank::fresh(n);
-    let mut s = made.stream;
+    let mut s = fresh(n);
     for b in 0..PLAYED {
-        s = play(rt, s, n, m, b)?;
+        play(rt, &mut s, n, b)?;
     }
     Ok(())
 }
 
-// Damaged blocks under numbers that the stream does not expect, one too low or one too high: 7 before 8, 2 and 3.
-fn unexpected_pair(
-    rt: &impl Print,
-    s: Stream,
-    x: [i32; ROOM],
-    m: usize,
-    kind: usize,
-) -> io::Result<Stream>
-    requires { (1 ≤ m) × (m ≤ 108) × (kind ≤ 6) }
-{
-    let s1 = refused_as(rt, s, 0, LONG, LONG, x, m, kind)?;
-    refused_as(rt, s1, 2, LONG, LONG, x, m, kind + 1)
-}
-
-fn unexpected(rt: &impl Print, n: usize, m: usize) -> io::Result<()>
-    requires { (1 ≤ m) × (m ≤ 108) }
-{
-    let x = noise(13, 1000000);
-    let made = filter_bank::fresh(n);
-    let s1 = offer(rt, made.stream, x, m, m)?;
-    let s2 = unexpected_pair(rt, s1, x, m, 0)?;
-    let s3 = unexpected_pair(rt, s2, x, m, 2)?;
-    let s4 = unexpected_pair(rt, s3, x, m, 4)?;
-    let s5 = unexpected_pair(rt, s4, x, m, 6)?;
-    offer(rt, s5, x, m, m)?;
-    Ok(())
+// Damaged blocks under numbers that the stream does not expect, one too low and one too high by turns: 7 before 8, 2 and 3.
+fn unexpected(rt: &impl Print, n: usize) -> io::Result<()> {
+    let m = n / 2;
+    let x = noise::coefficients(13, 1000000);
+    let mut s = fresh(n);
+    offer(rt, &mut s, x, m)?;
+    for (i, damage) in DAMAGES.iter().enumerate() {
+        let number = if i % 2 == 0 { 0 } else { 2 };
+        tried(
+            rt,
+            &mut s,
+            spoilt(step_of(number, LONG_JOINTS, x, m), *damage),
+        )?;
+    }
+    offer(rt, &mut s, x, m)
 }
 
 // Damaged blocks with shapes that the stream does not expect or that no joint has: 8 before 2 and 3.
-fn misshapen(rt: &impl Print, n: usize, m: usize) -> io::Result<()>
-    requires { (1 ≤ m) × (m ≤ 108) }
-{
-    let x = noise(14, 1000000);
-    let made = filter_bank::fresh(n);
-    let s1 = offer_to(rt, made.stream, SHORT, x, m, m)?;
-    let s2 = refused_as(rt, s1, 1, LONG, LONG, x, m, 0)?;
-    let s3 = refused_as(rt, s2, 1, 2, SHORT, x, m, 1)?;
-    let s4 = refused_as(rt, s3, 1, SHORT, 2, x, m, 2)?;
-    let s5 = refused_as(rt, s4, 1, LONG, 4294967295, x, m, 3)?;
-    offer(rt, s5, x, m, m)?;
-    Ok(())
+fn misshapen(rt: &impl Print, n: usize) -> io::Result<()> {
+    let m = n / 2;
+    let x = noise::coefficients(14, 1000000);
+    let mut s = fresh(n);
+    offer_to(rt, &mut s, SHORT, x, m)?;
+    for (left, right, damage) in [
+        (LONG, LONG, Damage::FewEntries),
+        (2, SHORT, Damage::ManyMarks),
+        (SHORT, 2, Damage::Above),
+        (LONG, u32::MAX, Damage::BelowAndFewMarks),
+    ] {
+        let step = step_of(1, Joints { left, right }, x, m);
+        tried(rt, &mut s, spoilt(step, damage))?;
+    }
+    offer(rt, &mut s, x, m)
 }
 
-// A state with a tail of v, and entries that are too many.
-fn forged_state(n: i64, expected: i64, shape: i64, v: i64) -> [i64; ROOM] {
-    let mut state = [v; ROOM];
-    state[0] = n;
-    state[1] = expected;
-    state[2] = shape;
-    state
-}
-
-// One step in place on a quiet block and the first `size` entries of a state.
-fn quiet_in_place(
-    rt: &impl Print,
-    held: [i64; ROOM],
-    size: usize,
-    number: u32,
-    left: u32,
-    right: u32,
-    m: usize,
-) -> io::Result<()>
-    requires { (size ≤ 112) × (m ≤ 108) }
-{
-    let mut state = held;
-    offer_in_place(
-        rt,
-        &mut state[..size],
+// A quiet block under a number.
+fn quiet(number: u32, left: u32, right: u32, m: usize) -> Step {
+    step_of(
         number,
-        left,
-        right,
-        noise(9, 1000000),
-        m,
+        Joints { left, right },
+        noise::coefficients(9, 1000000),
         m,
     )
 }
 
-// Such a step on a forged state, between long joints.
+// One step in place on the first `size` entries of a state.
+fn in_place(rt: &impl Print, state: [i64; ROOM], size: usize, step: Step) -> io::Result<()> {
+    let mut held = state;
+    let mut state = State {
+        entries: first_of(&mut held, size),
+    };
+    tried(rt, &mut state, step)
+}
+
+// A forged state of this size, between long joints.
 fn sized(
     rt: &impl Print,
     n: i64,
@@ -752,497 +474,450 @@ fn sized(
     size: usize,
     number: u32,
     m: usize,
-) -> io::Result<()>
-    requires { (size ≤ 112) × (m ≤ 108) }
-{
-    quiet_in_place(
+) -> io::Result<()> {
+    in_place(
         rt,
         forged_state(n, expected, 0, v),
         size,
-        number,
-        LONG,
-        LONG,
-        m,
+        quiet(number, LONG, LONG, m),
     )
 }
 
-// A stream that is made to expect a left shape, and a block with one: taken where both are 1, and else 8.
-fn forged_shape(rt: &impl Print, n: usize, m: usize, shape: u32, left: u32) -> io::Result<()>
-    requires { m ≤ 108 }
-{
-    offer_as(
-        rt,
-        alike(n, 5, shape, 7),
-        5,
-        left,
-        LONG,
-        noise(9, 1000000),
-        m,
-        m,
-    )?;
-    Ok(())
+// One step on a stream that is forged.
+fn on_forged(rt: &impl Print, stream: Stream, step: Step) -> io::Result<()> {
+    let mut s = stream;
+    tried(rt, &mut s, step)
 }
 
-// A shape above 1 is never taken.
-fn forged_shapes(rt: &impl Print, n: usize, m: usize) -> io::Result<()>
-    requires { m ≤ 108 }
-{
-    forged_shape(rt, n, m, 1, 0)?;
-    forged_shape(rt, n, m, 1, 1)?;
-    forged_shape(rt, n, m, 2, 0)?;
-    forged_shape(rt, n, m, 2, 1)?;
-    forged_shape(rt, n, m, 2, 2)?;
-    forged_shape(rt, n, m, 4294967295, 0)?;
-    forged_shape(rt, n, m, 4294967295, 1)?;
-    forged_shape(rt, n, m, 4294967295, 4294967295)
+// A stream that is made to expect a left shape, and a block with one: taken where both are 1, and else 8. A shape above 1 is never taken.
+fn forged_shapes(rt: &impl Print, n: usize, m: usize) -> io::Result<()> {
+    for (shape, left) in [
+        (1, 0),
+        (1, 1),
+        (2, 0),
+        (2, 1),
+        (2, 2),
+        (4294967295, 0),
+        (4294967295, 1),
+        (4294967295, 4294967295),
+    ] {
+        on_forged(rt, forged(n, 5, shape, 7), quiet(5, left, LONG, m))?;
+    }
+    Ok(())
 }
 
 // An empty block: 8 before 2. Another number: 7 before 8.
-fn shape_causes(rt: &impl Print, n: usize, m: usize) -> io::Result<()>
-    requires { m ≤ 108 }
-{
-    let s = alike(n, 5, 2, 7);
-    let x = loud(0);
-    offer_as(rt, s, 5, LONG, LONG, x, 0, m)?;
-    offer_as(rt, s, 6, LONG, LONG, x, m, m)?;
-    Ok(())
-}
-
-fn shape_in_place(rt: &impl Print, n: i64, m: usize, shape: i64, left: u32) -> io::Result<()>
-    requires { m ≤ 108 }
-{
-    quiet_in_place(rt, forged_state(n, 5, shape, 7), ENTRIES, 5, left, LONG, m)
+fn shape_causes(rt: &impl Print, n: usize, m: usize) -> io::Result<()> {
+    let s = forged(n, 5, 2, 7);
+    let step = step_of(5, LONG_JOINTS, [MOST; ROOM], m);
+    on_forged(rt, s, Step { entries: 0, ..step })?;
+    on_forged(rt, s, step_of(6, LONG_JOINTS, [MOST; ROOM], m))
 }
 
 // In place it can be negative or have more than 32 bits: some blocks have the shape that is left of it in 32.
-fn shapes_in_place(rt: &impl Print, n: i64, m: usize) -> io::Result<()>
-    requires { m ≤ 108 }
-{
-    shape_in_place(rt, n, m, 1, 0)?;
-    shape_in_place(rt, n, m, 1, 1)?;
-    shape_in_place(rt, n, m, 2, 0)?;
-    shape_in_place(rt, n, m, 2, 1)?;
-    shape_in_place(rt, n, m, 2, 2)?;
-    shape_in_place(rt, n, m, -1, 0)?;
-    shape_in_place(rt, n, m, -1, 1)?;
-    shape_in_place(rt, n, m, -1, 4294967295)
-}
-
-fn wide_shapes_in_place(rt: &impl Print, n: i64, m: usize) -> io::Result<()>
-    requires { m ≤ 108 }
-{
-    shape_in_place(rt, n, m, 4294967296, 0)?;
-    shape_in_place(rt, n, m, 4294967297, 1)?;
-    shape_in_place(rt, n, m, -4294967296, 0)?;
-    shape_in_place(rt, n, m, -4294967295, 1)?;
-    shape_in_place(rt, n, m, 9223372036854775807, 1)?;
-    shape_in_place(rt, n, m, 9223372036854775807, 4294967295)?;
-    shape_in_place(rt, n, m, -9223372036854775808, 0)
+fn shapes_in_place(rt: &impl Print, n: i64, m: usize) -> io::Result<()> {
+    for (shape, left) in [
+        (1, 0),
+        (1, 1),
+        (2, 0),
+        (2, 1),
+        (2, 2),
+        (-1, 0),
+        (-1, 1),
+        (-1, 4294967295),
+        (4294967296, 0),
+        (4294967297, 1),
+        (-4294967296, 0),
+        (-4294967295, 1),
+        (9223372036854775807, 1),
+        (9223372036854775807, 4294967295),
+        (-9223372036854775808, 0),
+    ] {
+        let state = forged_state(n, 5, shape, 7);
+        in_place(rt, state, ENTRIES, quiet(5, left, LONG, m))?;
+    }
+    Ok(())
 }
 
 // The same causes, and a state of another length.
-fn shape_causes_in_place(rt: &impl Print, n: i64, m: usize) -> io::Result<()>
-    requires { m ≤ 108 }
-{
+fn shape_causes_in_place(rt: &impl Print, n: i64, m: usize) -> io::Result<()> {
     let state = forged_state(n, 5, -1, 7);
-    quiet_in_place(rt, state, ENTRIES, 5, LONG, LONG, 0)?;
-    quiet_in_place(rt, state, ENTRIES, 6, LONG, LONG, m)?;
-    quiet_in_place(rt, state, ENTRIES - 1, 5, LONG, LONG, m)
+    in_place(rt, state, ENTRIES, quiet(5, LONG, LONG, 0))?;
+    in_place(rt, state, ENTRIES, quiet(6, LONG, LONG, m))?;
+    in_place(rt, state, ENTRIES - 1, quiet(5, LONG, LONG, m))
 }
 
-fn shapes(rt: &impl Print, n: usize, m: usize) -> io::Result<()>
-    requires { (n ≤ 216) × (m ≤ 108) }
+fn shapes(rt: &impl Print, n: usize) -> io::Result<()>
+    requires { n ≤ 216 }
 {
+    let m = n / 2;
     forged_shapes(rt, n, m)?;
     shape_causes(rt, n, m)?;
     shapes_in_place(rt, n as i64, m)?;
-    wide_shapes_in_place(rt, n as i64, m)?;
     shape_causes_in_place(rt, n as i64, m)
 }
 
 // A forged expected number that no block has, and the number that is left of it in 32 bits.
-fn stray(rt: &impl Print, n: usize, m: usize, expected: u64, number: u32) -> io::Result<()>
-    requires { m ≤ 108 }
-{
-    offer_as(
-        rt,
-        alike(n, expected, LONG, HEARD),
-        number,
-        LONG,
-        LONG,
-        noise(9, 1000000),
-        m,
-        m,
-    )?;
+fn strays(rt: &impl Print, n: usize) -> io::Result<()> {
+    for (expected, number) in [
+        (4294967296, 0),
+        (4294967301, 5),
+        (9223372036854775808, 0),
+        (18446744073709551615, 4294967295),
+    ] {
+        let s = forged(n, expected, LONG, HEARD);
+        on_forged(rt, s, quiet(number, LONG, LONG, n / 2))?;
+    }
     Ok(())
-}
-
-fn strays(rt: &impl Print, n: usize, m: usize) -> io::Result<()>
-    requires { m ≤ 108 }
-{
-    stray(rt, n, m, 4294967296, 0)?;
-    stray(rt, n, m, 4294967301, 5)?;
-    stray(rt, n, m, 9223372036854775808, 0)?;
-    stray(rt, n, m, 18446744073709551615, 4294967295)
 }
 
 // In place it can be negative: the number is then what is left of it in 32 bits, or its size.
-fn strays_in_place(rt: &impl Print, n: i64, m: usize) -> io::Result<()>
-    requires { m ≤ 108 }
-{
-    sized(rt, n, 4294967296, HEARD, ENTRIES, 0, m)?;
-    sized(rt, n, 4294967301, HEARD, ENTRIES, 5, m)?;
-    sized(rt, n, 9223372036854775807, HEARD, ENTRIES, 4294967295, m)?;
-    sized(rt, n, -1, HEARD, ENTRIES, 4294967295, m)?;
-    sized(rt, n, -5, HEARD, ENTRIES, 5, m)?;
-    sized(rt, n, -4294967296, HEARD, ENTRIES, 0, m)?;
-    sized(rt, n, -9223372036854775808, HEARD, ENTRIES, 0, m)
+fn strays_in_place(rt: &impl Print, n: i64, m: usize) -> io::Result<()> {
+    for (expected, number) in [
+        (4294967296, 0),
+        (4294967301, 5),
+        (9223372036854775807, 4294967295),
+        (-1, 4294967295),
+        (-5, 5),
+        (-4294967296, 0),
+        (-9223372036854775808, 0),
+    ] {
+        sized(rt, n, expected, HEARD, ENTRIES, number, m)?;
+    }
+    Ok(())
 }
 
 // Buffers of another size than m, one of them or both.
-fn wrong(rt: &impl Print, s: Stream, x: [i32; ROOM], m: usize, size: usize) -> io::Result<Stream>
-    requires { (m ≤ 108) × (size ≤ 109) }
-{
-    let s1 = offer(rt, s, x, m, size)?;
-    let s2 = offer(rt, s1, x, size, m)?;
-    offer(rt, s2, x, size, size)
+fn wrong(rt: &impl Print, s: &mut Stream, x: [i32; ROOM], m: usize, size: usize) -> io::Result<()> {
+    offer_sized(rt, s, x, m, size)?;
+    offer_sized(rt, s, x, size, m)?;
+    offer_sized(rt, s, x, size, size)
 }
 
 // Wrong lengths between two good blocks.
-fn sizes(rt: &impl Print, n: usize, m: usize) -> io::Result<()>
-    requires { (1 ≤ m) × (m ≤ 108) }
+fn sizes(rt: &impl Print, n: usize) -> io::Result<()>
+    requires { 2 ≤ n }
 {
-    let x = noise(11, 1000000);
-    let made = filter_bank::fresh(n);
-    let s1 = offer(rt, made.stream, x, m, m)?;
-    let s2 = wrong(rt, s1, x, m, 0)?;
-    let s3 = wrong(rt, s2, x, m, m - 1)?;
-    let s4 = wrong(rt, s3, x, m, m + 1)?;
-    offer(rt, s4, x, m, m)?;
-    Ok(())
+    let m = n / 2;
+    let x = noise::coefficients(11, 1000000);
+    let mut s = fresh(n);
+    offer(rt, &mut s, x, m)?;
+    wrong(rt, &mut s, x, m, 0)?;
+    wrong(rt, &mut s, x, m, m - 1)?;
+    wrong(rt, &mut s, x, m, m + 1)?;
+    offer(rt, &mut s, x, m)
 }
 
 // Loud blocks. All of one sign and then alternating have the signs of the kernel's entries for one place: no sum of a tail entry
 // and a value goes further, at joints of either shape. It is tried both ways.
-fn loud_pair(
-    rt: &impl Print,
-    s: Stream,
-    m: usize,
-    right: u32,
-    signs: u64,
-    then: u64,
-) -> io::Result<Stream>
-    requires { m ≤ 108 }
-{
-    let s1 = offer_to(rt, s, right, loud(signs), m, m)?;
-    offer_to(rt, s1, right, loud(then), m, m)
-}
-
-fn extremes(rt: &impl Print, n: usize, m: usize, shape: u32) -> io::Result<()>
-    requires { m ≤ 108 }
-{
-    let made = filter_bank::fresh(n);
-    let s1 = loud_pair(rt, made.stream, m, shape, 0, EVERY)?;
-    let s2 = loud_pair(rt, s1, m, shape, EVERY, ODD)?;
-    let s3 = loud_pair(rt, s2, m, shape, ODD, ODD)?;
-    let s4 = loud_pair(rt, s3, m, shape, 0, EVEN)?;
-    offer(rt, s4, noise(0, 0), m, m)?;
-    Ok(())
+fn extremes(rt: &impl Print, n: usize, shape: u32) -> io::Result<()> {
+    let m = n / 2;
+    let highest = [MOST; ROOM];
+    let lowest = [LEAST; ROOM];
+    let even = alternating(LEAST, MOST);
+    let odd = alternating(MOST, LEAST);
+    let mut s = fresh(n);
+    for x in [highest, lowest, lowest, odd, odd, odd, highest, even] {
+        offer_to(rt, &mut s, shape, x, m)?;
+    }
+    offer(rt, &mut s, [0; ROOM], m)
 }
 
 // The coefficient v, first and last, taken or not, and with buffers that are short or long by one.
-fn limit(rt: &impl Print, n: usize, m: usize, v: i32) -> io::Result<()>
-    requires { (1 ≤ m) × (m ≤ 108) }
+fn limit(rt: &impl Print, n: usize, v: i32) -> io::Result<()>
+    requires { 2 ≤ n }
 {
-    let x = noise(7, 1000000);
-    let first = with(x, 0, v);
-    let last = with(x, m - 1, v);
-    let made = filter_bank::fresh(n);
-    let s1 = offer(rt, made.stream, first, m, m)?;
-    let s2 = offer(rt, s1, last, m, m)?;
-    let s3 = wrong(rt, s2, first, m, m - 1)?;
-    let s4 = wrong(rt, s3, last, m, m + 1)?;
-    offer(rt, s4, x, m, m)?;
+    let m = n / 2;
+    let x = noise::coefficients(7, 1000000);
+    let front = with(x, 0, v);
+    let back = with(x, m - 1, v);
+    let mut s = fresh(n);
+    offer(rt, &mut s, front, m)?;
+    offer(rt, &mut s, back, m)?;
+    wrong(rt, &mut s, front, m, m - 1)?;
+    wrong(rt, &mut s, back, m, m + 1)?;
+    offer(rt, &mut s, x, m)
+}
+
+fn coefficient_limits(rt: &impl Print, n: usize) -> io::Result<()>
+    requires { 2 ≤ n }
+{
+    for v in [MOST, ABOVE, LEAST, BELOW, i32::MAX, i32::MIN] {
+        limit(rt, n, v)?;
+    }
     Ok(())
 }
 
 // A coefficient beyond the range at every place.
-fn limit_places(rt: &impl Print, n: usize, m: usize) -> io::Result<()>
-    requires { m ≤ 108 }
-{
-    let made = filter_bank::fresh(n);
-    let mut s = made.stream;
-    let x = loud(0);
+fn limit_places(rt: &impl Print, n: usize) -> io::Result<()> {
+    let m = n / 2;
+    let mut s = fresh(n);
     for k in 0..m {
-        s = offer(rt, s, with(x, k, ABOVE), m, m)?;
-        s = offer(rt, s, with(x, k, BELOW), m, m)?;
+        offer(rt, &mut s, with([MOST; ROOM], k, ABOVE), m)?;
+        offer(rt, &mut s, with([MOST; ROOM], k, BELOW), m)?;
     }
     Ok(())
 }
 
-fn limits(rt: &impl Print, n: usize, m: usize) -> io::Result<()>
-    requires { (1 ≤ m) × (m ≤ 108) }
-{
-    limit(rt, n, m, MOST)?;
-    limit(rt, n, m, ABOVE)?;
-    limit(rt, n, m, LEAST)?;
-    limit(rt, n, m, BELOW)?;
-    limit(rt, n, m, 2147483647)?;
-    limit(rt, n, m, -2147483648)
-}
-
 // A forged stream that expects block 5, all its tail entries `rest` but entry i, which is v: one step on a quiet block.
-fn forged(rt: &impl Print, n: usize, m: usize, rest: i64, i: usize, v: i64) -> io::Result<()>
-    requires { (m ≤ 108) × (i < 108) }
-{
-    let mut tail = [rest; stream::STORAGE];
-    tail[i] = v;
-    let s = Stream {
-        n: n,
-        expected: 5,
-        shape: LONG,
-        tail: tail,
-    };
-    offer(rt, s, noise(9, 1000000), m, m)?;
-    Ok(())
+fn with_entry(rt: &impl Print, n: usize, m: usize, rest: i64, i: usize, v: i64) -> io::Result<()> {
+    let s = forged(n, 5, LONG, rest);
+    let tail = with(s.tail, i, v);
+    on_forged(rt, Stream { tail, ..s }, quiet(5, LONG, LONG, m))
 }
 
 // The same in place.
-fn forged_in_place(rt: &impl Print, n: i64, m: usize, rest: i64, i: usize, v: i64) -> io::Result<()>
-    requires { (m ≤ 108) × (i < 108) }
+fn with_entry_in_place(
+    rt: &impl Print,
+    n: i64,
+    m: usize,
+    rest: i64,
+    i: usize,
+    v: i64,
+) -> io::Result<()>
+    requires { i < 108 }
 {
-    let mut state = forged_state(n, 5, 0, rest);
-    state[3 + i] = v;
-    quiet_in_place(rt, state, ENTRIES, 5, LONG, LONG, m)
+    let state = with(forged_state(n, 5, 0, rest), 3 + i, v);
+    in_place(rt, state, ENTRIES, quiet(5, LONG, LONG, m))
 }
 
 // A forged stream is refused with 4 before any length, any coefficient, the number and the shapes are looked at, even where it expects none.
-fn forged_expecting(rt: &impl Print, n: usize, m: usize, v: i64) -> io::Result<()>
-    requires { m ≤ 108 }
-{
-    let x = loud(0);
-    offer_as(rt, alike(n, 4294967296, LONG, v), 0, LONG, LONG, x, m, m)?;
-    offer_as(rt, alike(n, 5, 2, v), 6, 2, 2, x, m, m)?;
-    Ok(())
-}
-
-fn forged_first(rt: &impl Print, n: usize, m: usize, v: i64) -> io::Result<()>
-    requires { m ≤ 108 }
-{
-    let x = loud(0);
-    let s1 = offer(rt, alike(n, 5, LONG, v), x, 0, m)?;
-    let s2 = offer(rt, s1, with(x, 0, ABOVE), m, m)?;
-    let s3 = offer(rt, s2, with(x, 0, BELOW), m, 0)?;
-    offer_as(rt, s3, 6, LONG, LONG, x, m, m)?;
-    forged_expecting(rt, n, m, v)
+fn forged_first(rt: &impl Print, n: usize, m: usize, v: i64) -> io::Result<()> {
+    let x = [MOST; ROOM];
+    let mut s = forged(n, 5, LONG, v);
+    offer_sized(rt, &mut s, x, 0, m)?;
+    offer(rt, &mut s, with(x, 0, ABOVE), m)?;
+    offer_sized(rt, &mut s, with(x, 0, BELOW), m, 0)?;
+    tried(rt, &mut s, step_of(6, LONG_JOINTS, x, m))?;
+    let none = forged(n, 4294967296, LONG, v);
+    on_forged(rt, none, step_of(0, LONG_JOINTS, x, m))?;
+    let misshapen = Joints { left: 2, right: 2 };
+    on_forged(rt, forged(n, 5, 2, v), step_of(6, misshapen, x, m))
 }
 
 // In place too, and a state of another length is 2 before that.
-fn first_in_place(rt: &impl Print, n: i64, m: usize, v: i64) -> io::Result<()>
-    requires { m ≤ 108 }
-{
+fn first_in_place(rt: &impl Print, n: i64, m: usize, v: i64) -> io::Result<()> {
     sized(rt, n, 5, v, ENTRIES, 5, m)?;
     sized(rt, n, 5, v, ENTRIES, 6, m)?;
     sized(rt, n, -1, v, ENTRIES, 4294967295, m)?;
     sized(rt, n, 5, v, ENTRIES - 1, 6, m)?;
-    quiet_in_place(rt, forged_state(n, 5, -1, v), ENTRIES, 6, 2, 2, m)
+    in_place(rt, forged_state(n, 5, -1, v), ENTRIES, quiet(6, 2, 2, m))
 }
 
-// A whole tail of v, and a block that drives one place as far as it goes.
-fn driven(rt: &impl Print, n: usize, m: usize, v: i64, signs: u64) -> io::Result<()>
-    requires { m ≤ 108 }
+// The limits of a tail at a length: the most, M times 2^55, one above it, the least and one below it.
+#[derive(Clone, Copy)]
+struct Limits {
+    n: usize,
+    most: i64,
+    above: i64,
+    least: i64,
+    below: i64,
+}
+
+const LIMITS: [Limits; 6] = [
+    Limits {
+        n: 12,
+        most: 216172782113783808,
+        above: 216172782113783809,
+        least: -216172782113783808,
+        below: -216172782113783809,
+    },
+    Limits {
+        n: 24,
+        most: 432345564227567616,
+        above: 432345564227567617,
+        least: -432345564227567616,
+        below: -432345564227567617,
+    },
+    Limits {
+        n: 36,
+        most: 648518346341351424,
+        above: 648518346341351425,
+        least: -648518346341351424,
+        below: -648518346341351425,
+    },
+    Limits {
+        n: 72,
+        most: 1297036692682702848,
+        above: 1297036692682702849,
+        least: -1297036692682702848,
+        below: -1297036692682702849,
+    },
+    Limits {
+        n: 108,
+        most: 1945555039024054272,
+        above: 1945555039024054273,
+        least: -1945555039024054272,
+        below: -1945555039024054273,
+    },
+    Limits {
+        n: 216,
+        most: 3891110078048108544,
+        above: 3891110078048108545,
+        least: -3891110078048108544,
+        below: -3891110078048108545,
+    },
+];
+
+// Tail entries at the limit and one beyond, in the first place and in the last; and a whole tail at it, with a block that drives one place as far as it goes.
+fn edges(rt: &impl Print, m: usize, limits: Limits) -> io::Result<()>
+    requires { 1 ≤ m }
 {
-    offer(rt, alike(n, 5, LONG, v), loud(signs), m, m)?;
-    Ok(())
+    let Limits {
+        n,
+        most,
+        above,
+        least,
+        below,
+    } = limits;
+    for (rest, i, v) in [
+        (most, 0, most),
+        (least, 0, least),
+        (most, m - 1, least),
+        (0, 0, above),
+        (0, 0, below),
+        (0, m - 1, above),
+        (0, m - 1, below),
+        (0, m - 1, i64::MIN),
+        (0, m - 1, i64::MAX),
+    ] {
+        with_entry(rt, n, m, rest, i, v)?;
+    }
+    forged_first(rt, n, m, above)?;
+    forged_first(rt, n, m, below)?;
+    let even = step_of(5, LONG_JOINTS, alternating(LEAST, MOST), m);
+    let odd = step_of(5, LONG_JOINTS, alternating(MOST, LEAST), m);
+    on_forged(rt, forged(n, 5, LONG, most), odd)?;
+    on_forged(rt, forged(n, 5, LONG, least), even)
 }
 
 // A tail entry beyond the limit at every place.
-fn tail_places(rt: &impl Print, n: usize, m: usize, above: i64, below: i64) -> io::Result<()>
-    requires { m ≤ 108 }
-{
+fn tail_places(rt: &impl Print, m: usize, limits: Limits) -> io::Result<()> {
     for i in 0..m {
-        forged(rt, n, m, 0, i, above)?;
-        forged(rt, n, m, 0, i, below)?;
+        with_entry(rt, limits.n, m, 0, i, limits.above)?;
+        with_entry(rt, limits.n, m, 0, i, limits.below)?;
     }
     Ok(())
 }
 
-// Tail entries at the limit and one beyond, in the first place and in the last.
-fn edges(
-    rt: &impl Print,
-    n: usize,
-    m: usize,
-    most: i64,
-    above: i64,
-    least: i64,
-    below: i64,
-) -> io::Result<()>
+fn edges_in_place(rt: &impl Print, n: i64, m: usize, limits: Limits) -> io::Result<()>
     requires { (1 ≤ m) × (m ≤ 108) }
 {
-    forged(rt, n, m, most, 0, most)?;
-    forged(rt, n, m, least, 0, least)?;
-    forged(rt, n, m, most, m - 1, least)?;
-    forged(rt, n, m, 0, 0, above)?;
-    forged(rt, n, m, 0, 0, below)?;
-    forged(rt, n, m, 0, m - 1, above)?;
-    forged(rt, n, m, 0, m - 1, below)?;
-    forged(rt, n, m, 0, m - 1, -9223372036854775808)?;
-    forged(rt, n, m, 0, m - 1, 9223372036854775807)?;
-    forged_first(rt, n, m, above)?;
-    forged_first(rt, n, m, below)?;
-    driven(rt, n, m, most, ODD)?;
-    driven(rt, n, m, least, EVEN)
-}
-
-fn edges_in_place(
-    rt: &impl Print,
-    n: i64,
-    m: usize,
-    most: i64,
-    above: i64,
-    least: i64,
-    below: i64,
-) -> io::Result<()>
-    requires { (1 ≤ m) × (m ≤ 108) }
-{
-    forged_in_place(rt, n, m, most, m - 1, least)?;
-    forged_in_place(rt, n, m, 0, 0, above)?;
-    forged_in_place(rt, n, m, 0, 0, below)?;
-    forged_in_place(rt, n, m, 0, m - 1, above)?;
-    forged_in_place(rt, n, m, 0, m - 1, below)?;
+    let Limits {
+        most,
+        above,
+        least,
+        below,
+        ..
+    } = limits;
+    with_entry_in_place(rt, n, m, most, m - 1, least)?;
+    with_entry_in_place(rt, n, m, 0, 0, above)?;
+    with_entry_in_place(rt, n, m, 0, 0, below)?;
+    with_entry_in_place(rt, n, m, 0, m - 1, above)?;
+    with_entry_in_place(rt, n, m, 0, m - 1, below)?;
     first_in_place(rt, n, m, above)?;
     first_in_place(rt, n, m, below)
 }
 
-fn tails(
-    rt: &impl Print,
-    n: usize,
-    m: usize,
-    most: i64,
-    above: i64,
-    least: i64,
-    below: i64,
-) -> io::Result<()>
-    requires { (n ≤ 216) × (1 ≤ m) × (m ≤ 108) }
+fn tails(rt: &impl Print, limits: Limits) -> io::Result<()>
+    requires { (2 ≤ limits.n) × (limits.n ≤ 216) }
 {
-    edges(rt, n, m, most, above, least, below)?;
-    tail_places(rt, n, m, above, below)?;
-    edges_in_place(rt, n as i64, m, most, above, least, below)
+    let m = limits.n / 2;
+    edges(rt, m, limits)?;
+    tail_places(rt, m, limits)?;
+    edges_in_place(rt, limits.n as i64, m, limits)
 }
 
-// A tail of zeros whose entries beyond M are v.
-fn rubbish(m: usize, v: i64) -> [i64; stream::STORAGE]
-    requires { m ≤ 108 }
+// A tail of zeros whose entries beyond M are v, through steps that are taken and refused.
+fn kept(rt: &impl Print, n: usize, v: i64) -> io::Result<()>
+    requires { n ≤ 216 }
 {
-    let mut tail = [0; stream::STORAGE];
-    for i in m..stream::STORAGE {
-        tail[i] = v;
-    }
-    tail
-}
-
-// Such a stream through steps that are taken and refused.
-fn kept(rt: &impl Print, n: usize, m: usize, v: i64) -> io::Result<()>
-    requires { (1 ≤ m) × (m ≤ 108) }
-{
-    let tail = rubbish(m, v);
-    let s = Stream {
-        n: n,
-        expected: 5,
-        shape: LONG,
-        tail: tail,
-    };
-    let s1 = offer_to(rt, s, SHORT, noise(9, 1000000), m, m)?;
-    let s2 = refused(rt, s1, noise(10, 1000000), m, 2)?;
-    let s3 = offer_to(rt, s2, SHORT, loud(ODD), m, m)?;
-    let s4 = refused(rt, s3, loud(EVEN), m, 1)?;
-    offer(rt, s4, noise(12, 1000000), m, m)?;
-    Ok(())
+    let m = n / 2;
+    let mut s = forged(n, 5, LONG, 0);
+    s.tail[m..].fill(v);
+    offer_to(rt, &mut s, SHORT, noise::coefficients(9, 1000000), m)?;
+    refused(
+        rt,
+        &mut s,
+        noise::coefficients(10, 1000000),
+        m,
+        Damage::Above,
+    )?;
+    offer_to(rt, &mut s, SHORT, alternating(MOST, LEAST), m)?;
+    refused(rt, &mut s, alternating(LEAST, MOST), m, Damage::ManyMarks)?;
+    offer(rt, &mut s, noise::coefficients(12, 1000000), m)
 }
 
 // Rubbish v beyond M, at place i and at all of them: kept, and never a cause.
-fn beyond(rt: &impl Print, n: usize, m: usize, i: usize, v: i64) -> io::Result<()>
-    requires { (n ≤ 216) × (1 ≤ m) × (m ≤ 108) × (i < 108) }
+fn beyond(rt: &impl Print, n: usize, i: usize, v: i64) -> io::Result<()>
+    requires { (n ≤ 216) × (i < 108) }
 {
-    forged(rt, n, m, 0, i, v)?;
-    forged_in_place(rt, n as i64, m, 0, i, v)?;
-    kept(rt, n, m, v)
+    let m = n / 2;
+    with_entry(rt, n, m, 0, i, v)?;
+    with_entry_in_place(rt, n as i64, m, 0, i, v)?;
+    kept(rt, n, v)
 }
 
 // The first place beyond M and the last.
-fn rubbish_beyond(rt: &impl Print, n: usize, m: usize) -> io::Result<()>
-    requires { (n ≤ 216) × (1 ≤ m) × (m < 108) }
+fn rubbish_beyond(rt: &impl Print, n: usize) -> io::Result<()>
+    requires { n < 216 }
 {
-    beyond(rt, n, m, m, -9223372036854775808)?;
-    beyond(rt, n, m, stream::STORAGE - 1, 9223372036854775807)
+    beyond(rt, n, n / 2, i64::MIN)?;
+    beyond(rt, n, stream::STORAGE - 1, i64::MAX)
 }
 
 // No entry, N alone, a state with a tail of one hop, one entry fewer than a state has and one more, and a state, which is taken.
 fn state_sizes(rt: &impl Print, n: i64, m: usize) -> io::Result<()>
     requires { m ≤ 108 }
 {
-    sized(rt, n, 5, HEARD, 0, 5, m)?;
-    sized(rt, n, 5, HEARD, 1, 5, m)?;
-    sized(rt, n, 5, HEARD, m + 3, 5, m)?;
-    sized(rt, n, 5, HEARD, ENTRIES - 1, 5, m)?;
-    sized(rt, n, 5, HEARD, ENTRIES + 1, 5, m)?;
-    sized(rt, n, 5, HEARD, ENTRIES, 5, m)
+    for size in [0, 1, m + 3, ENTRIES - 1, ENTRIES + 1, ENTRIES] {
+        sized(rt, n, 5, HEARD, size, 5, m)?;
+    }
+    Ok(())
 }
 
-fn length(rt: &impl Print, n: usize, m: usize) -> io::Result<()>
-    requires { (n ≤ 216) × (1 ≤ m) × (m ≤ 108) }
+fn length(rt: &impl Print, n: usize) -> io::Result<()>
+    requires { (2 ≤ n) × (n ≤ 216) }
 {
-    long(rt, n, m)?;
-    orders(rt, n, m)?;
-    played(rt, n, m)?;
-    unexpected(rt, n, m)?;
-    misshapen(rt, n, m)?;
-    shapes(rt, n, m)?;
-    strays(rt, n, m)?;
-    strays_in_place(rt, n as i64, m)?;
-    sizes(rt, n, m)?;
-    extremes(rt, n, m, LONG)?;
-    extremes(rt, n, m, SHORT)?;
-    limits(rt, n, m)?;
-    limit_places(rt, n, m)?;
-    state_sizes(rt, n as i64, m)
+    long(rt, n)?;
+    orders(rt, n)?;
+    played(rt, n)?;
+    unexpected(rt, n)?;
+    misshapen(rt, n)?;
+    shapes(rt, n)?;
+    strays(rt, n)?;
+    strays_in_place(rt, n as i64, n / 2)?;
+    sizes(rt, n)?;
+    extremes(rt, n, LONG)?;
+    extremes(rt, n, SHORT)?;
+    coefficient_limits(rt, n)?;
+    limit_places(rt, n)?;
+    state_sizes(rt, n as i64, n / 2)
 }
 
-fn show_made(rt: &impl Print, n: usize, code: u32) -> io::Result<()> {
-    report::word(rt, b"fresh")?;
-    report::count(rt, n)?;
-    report::count(rt, code as usize)?;
-    report::end(rt)
-}
-
+// A fresh stream, and the number of the answer.
 fn made(rt: &impl Print, n: usize) -> io::Result<()> {
-    let r = filter_bank::fresh(n);
-    show_made(rt, n, r.code)?;
-    show_stream(rt, r.stream)
-}
-
-fn told_made(rt: &impl Print, n: usize, state: &mut [i64]) -> io::Result<()> {
-    let code = filter_bank::fresh_in_place(n, state);
-    show_made(rt, n, code)?;
-    show_state(rt, state)
+    let code = code(&filter_bank::fresh(n));
+    println!(rt; "fresh,{n},{code}")?;
+    fresh(n).show(rt)
 }
 
 // The same in place, in a buffer of `size` entries that hold something else.
-fn made_in_place(rt: &impl Print, n: usize, size: usize) -> io::Result<()>
-    requires { size ≤ 112 }
-{
-    let mut state = [7; ROOM];
-    told_made(rt, n, &mut state[..size])
+fn made_in_place(rt: &impl Print, n: usize, size: usize) -> io::Result<()> {
+    let mut held = [7; ROOM];
+    let entries = first_of(&mut held, size);
+    let code = code(&filter_bank::fresh_in_place(n, entries));
+    println!(rt; "fresh,{n},{code}")?;
+    State { entries }.show(rt)
 }
 
 // Streams of a length that is tabled.
 fn tabled(rt: &impl Print, n: usize) -> io::Result<()> {
     made(rt, n)?;
-    made_in_place(rt, n, 0)?;
-    made_in_place(rt, n, 1)?;
-    made_in_place(rt, n, ENTRIES - 1)?;
-    made_in_place(rt, n, ENTRIES + 1)?;
-    made_in_place(rt, n, ENTRIES)
+    for size in [0, 1, ENTRIES - 1, ENTRIES + 1, ENTRIES] {
+        made_in_place(rt, n, size)?;
+    }
+    Ok(())
 }
 
 // Streams of a length that is not tabled.
@@ -1250,164 +925,95 @@ fn untabled(rt: &impl Print, n: usize) -> io::Result<()> {
     made(rt, n)?;
     made_in_place(rt, n, 0)?;
     made_in_place(rt, n, ENTRIES)?;
-    forged(rt, n, 0, 0, 0, 0)?;
-    forged(rt, n, 18, 0, 3, 5)?;
+    with_entry(rt, n, 0, 0, 0, 0)?;
+    with_entry(rt, n, 18, 0, 3, 5)?;
     forged_first(rt, n, 24, 0)
 }
 
 // States of such a length, of one that is 12 in 32 bits, and of negative ones.
 fn untabled_in_place(rt: &impl Print) -> io::Result<()> {
-    first_in_place(rt, 0, 18, 0)?;
-    first_in_place(rt, 11, 18, 0)?;
-    first_in_place(rt, 48, 18, 0)?;
-    first_in_place(rt, 107, 18, 0)?;
-    first_in_place(rt, 144, 18, 0)?;
-    first_in_place(rt, 217, 18, 0)?;
-    first_in_place(rt, 432, 18, 0)?;
-    first_in_place(rt, 4294967308, 18, 0)?;
-    first_in_place(rt, -1, 18, 0)?;
-    first_in_place(rt, -12, 18, 0)?;
-    first_in_place(rt, -9223372036854775808, 18, 0)
+    for n in [
+        0,
+        11,
+        48,
+        107,
+        144,
+        217,
+        432,
+        4294967308,
+        -1,
+        -12,
+        -9223372036854775808,
+    ] {
+        first_in_place(rt, n, 18, 0)?;
+    }
+    Ok(())
 }
 
-// Tails at the limit of a length: M times 2^55.
-fn short_tails(rt: &impl Print) -> io::Result<()> {
-    tails(
-        rt,
-        12,
-        6,
-        216172782113783808,
-        216172782113783809,
-        -216172782113783808,
-        -216172782113783809,
-    )?;
-    tails(
-        rt,
-        24,
-        12,
-        432345564227567616,
-        432345564227567617,
-        -432345564227567616,
-        -432345564227567617,
-    )?;
-    tails(
-        rt,
-        36,
-        18,
-        648518346341351424,
-        648518346341351425,
-        -648518346341351424,
-        -648518346341351425,
-    )?;
-    tails(
-        rt,
-        72,
-        36,
-        1297036692682702848,
-        1297036692682702849,
-        -1297036692682702848,
-        -1297036692682702849,
-    )
-}
-
-// The same at the two longest lengths.
-fn long_tails(rt: &impl Print) -> io::Result<()> {
-    tails(
-        rt,
-        108,
-        54,
-        1945555039024054272,
-        1945555039024054273,
-        -1945555039024054272,
-        -1945555039024054273,
-    )?;
-    tails(
-        rt,
-        216,
-        108,
-        3891110078048108544,
-        3891110078048108545,
-        -3891110078048108544,
-        -3891110078048108545,
-    )
-}
-
-// A fresh stream and the coefficient c alone, with either sign: U at place M, which the tail shows, meets an exact half above zero and below.
-fn half_value(rt: &impl Print, n: usize, m: usize, c: i32) -> io::Result<()>
-    requires { m ≤ 108 }
-{
-    let made = filter_bank::fresh(n);
-    offer(rt, made.stream, with(noise(0, 0), 0, c), m, m)?;
+// A fresh stream and the coefficient c alone: U at place M, which the tail shows, meets an exact half above zero and below.
+fn half_values(rt: &impl Print) -> io::Result<()> {
+    for (n, c) in [
+        (12, 33554432),
+        (12, -33554432),
+        (24, 33554432),
+        (24, -33554432),
+        (36, 33554432),
+        (36, -33554432),
+        (72, 33554432),
+        (72, -33554432),
+        (108, 33554432),
+        (108, -33554432),
+        (216, 8388608),
+        (216, -8388608),
+    ] {
+        offer(rt, &mut fresh(n), with([0; ROOM], 0, c), n / 2)?;
+    }
     Ok(())
 }
 
 // A tail of t, which is half a sample, above zero or below, and no coefficients.
-fn half_sample(rt: &impl Print, n: usize, m: usize, t: i64) -> io::Result<()>
-    requires { m ≤ 108 }
-{
-    offer(rt, alike(n, 5, LONG, t), noise(0, 0), m, m)?;
+fn half_samples(rt: &impl Print) -> io::Result<()> {
+    for (n, t) in [
+        (12, -6442450944),
+        (12, 6442450944),
+        (24, -12884901888),
+        (24, 12884901888),
+        (36, -19327352832),
+        (36, 19327352832),
+        (72, -38654705664),
+        (72, 38654705664),
+        (108, -57982058496),
+        (108, 57982058496),
+        (216, -115964116992),
+        (216, 115964116992),
+    ] {
+        offer(rt, &mut forged(n, 5, LONG, t), [0; ROOM], n / 2)?;
+    }
     Ok(())
 }
 
-fn half_values(rt: &impl Print) -> io::Result<()> {
-    half_value(rt, 12, 6, 33554432)?;
-    half_value(rt, 12, 6, -33554432)?;
-    half_value(rt, 24, 12, 33554432)?;
-    half_value(rt, 24, 12, -33554432)?;
-    half_value(rt, 36, 18, 33554432)?;
-    half_value(rt, 36, 18, -33554432)?;
-    half_value(rt, 72, 36, 33554432)?;
-    half_value(rt, 72, 36, -33554432)?;
-    half_value(rt, 108, 54, 33554432)?;
-    half_value(rt, 108, 54, -33554432)?;
-    half_value(rt, 216, 108, 8388608)?;
-    half_value(rt, 216, 108, -8388608)
-}
-
-fn half_samples(rt: &impl Print) -> io::Result<()> {
-    half_sample(rt, 12, 6, -6442450944)?;
-    half_sample(rt, 12, 6, 6442450944)?;
-    half_sample(rt, 24, 12, -12884901888)?;
-    half_sample(rt, 24, 12, 12884901888)?;
-    half_sample(rt, 36, 18, -19327352832)?;
-    half_sample(rt, 36, 18, 19327352832)?;
-    half_sample(rt, 72, 36, -38654705664)?;
-    half_sample(rt, 72, 36, 38654705664)?;
-    half_sample(rt, 108, 54, -57982058496)?;
-    half_sample(rt, 108, 54, 57982058496)?;
-    half_sample(rt, 216, 108, -115964116992)?;
-    half_sample(rt, 216, 108, 115964116992)
-}
-
 fn main(rt: HostRuntime) -> io::Result<()> {
-    tabled(&rt, 12)?;
-    tabled(&rt, 24)?;
-    tabled(&rt, 36)?;
-    tabled(&rt, 72)?;
-    tabled(&rt, 108)?;
-    tabled(&rt, 216)?;
-    untabled(&rt, 0)?;
-    untabled(&rt, 11)?;
-    untabled(&rt, 48)?;
-    untabled(&rt, 18446744073709551615)?;
-    untabled(&rt, 107)?;
-    untabled(&rt, 144)?;
-    untabled(&rt, 217)?;
-    untabled(&rt, 432)?;
+    for n in LENGTHS {
+        tabled(&rt, n)?;
+    }
+    for n in [0, 11, 48, usize::MAX, 107, 144, 217, 432] {
+        untabled(&rt, n)?;
+    }
     untabled_in_place(&rt)?;
-    length(&rt, 12, 6)?;
-    length(&rt, 24, 12)?;
-    length(&rt, 36, 18)?;
-    length(&rt, 72, 36)?;
-    length(&rt, 108, 54)?;
-    length(&rt, 216, 108)?;
-    short_tails(&rt)?;
-    long_tails(&rt)?;
-    rubbish_beyond(&rt, 12, 6)?;
-    rubbish_beyond(&rt, 24, 12)?;
-    rubbish_beyond(&rt, 36, 18)?;
-    rubbish_beyond(&rt, 72, 36)?;
-    rubbish_beyond(&rt, 108, 54)?;
+    length(&rt, 12)?;
+    length(&rt, 24)?;
+    length(&rt, 36)?;
+    length(&rt, 72)?;
+    length(&rt, 108)?;
+    length(&rt, 216)?;
+    for limits in LIMITS {
+        tails(&rt, limits)?;
+    }
+    rubbish_beyond(&rt, 12)?;
+    rubbish_beyond(&rt, 24)?;
+    rubbish_beyond(&rt, 36)?;
+    rubbish_beyond(&rt, 72)?;
+    rubbish_beyond(&rt, 108)?;
     half_values(&rt)?;
     half_samples(&rt)
 }

@@ -1,16 +1,14 @@
 // The table, the window, the kernels and the roundings at chosen places, compared with what vectors/values.py makes from the definitions.
 #![tactic(auto)]
 
-ghost use Rattle.std.specs.Prelude.{◌≤◌, ◌<◌, ◌/◌, T};
+ghost use Rattle.std.specs.Prelude.{ℕ, ◌≤◌, ◌<◌, ◌/◌, T};
 ghost use Rattle.arithmetic.specs.QuotientLaws.{splits};
 ghost use Rattle.cosine.specs.Kernels.{tabled};
 
 use std::io;
 
 // Sums around zero, halves of either sign of every divisor, one beside them, and the ends of a sum.
-const COUNT: usize = 89;
-
-const SUMS: [i64; COUNT] = [
+const SUMS: [i64; 89] = [
     0,
     1,
     -1,
@@ -102,20 +100,12 @@ const SUMS: [i64; COUNT] = [
     -7782220156096217088,
 ];
 
-fn line(rt: &impl Print, word: &[u8], of: usize, a: i64, value: i64) -> io::Result<()> {
-    report::word(rt, word)?;
-    report::count(rt, of)?;
-    report::field(rt, a)?;
-    report::field(rt, value)?;
-    report::end(rt)
-}
-
 // A sum that rnd_shift takes: one of at most 2^62.
 fn shift(rt: &impl Print, k: u32, a: i64) -> io::Result<()>
     requires { (2 ≤ k) × (k < 63) }
 {
     if arithmetic::size(a) <= 4611686018427387904 {
-        line(rt, b"shift", k as usize, a, arithmetic::rnd_shift(a, k))?;
+        println!(rt; "shift,{k},{a},{}", arithmetic::rnd_shift(a, k))?;
     }
     Ok(())
 }
@@ -123,8 +113,7 @@ fn shift(rt: &impl Print, k: u32, a: i64) -> io::Result<()>
 fn shifts(rt: &impl Print, k: u32) -> io::Result<()>
     requires { (2 ≤ k) × (k < 63) }
 {
-    for i in 0..COUNT {
-        let a = SUMS[i];
+    for a in SUMS {
         shift(rt, k, a)?;
     }
     Ok(())
@@ -135,7 +124,7 @@ fn scale(rt: &impl Print, n: usize, a: i64) -> io::Result<()>
     requires { T (splits n) }
 {
     if arithmetic::size(a) <= n as u64 * 36028797018963968 {
-        line(rt, b"scale", n, a, arithmetic::sample(a, n) as i64)?;
+        println!(rt; "scale,{n},{a},{}", arithmetic::sample(a, n))?;
     }
     Ok(())
 }
@@ -143,8 +132,7 @@ fn scale(rt: &impl Print, n: usize, a: i64) -> io::Result<()>
 fn scales(rt: &impl Print, n: usize) -> io::Result<()>
     requires { T (splits n) }
 {
-    for i in 0..COUNT {
-        let a = SUMS[i];
+    for a in SUMS {
         scale(rt, n, a)?;
     }
     Ok(())
@@ -153,21 +141,14 @@ fn scales(rt: &impl Print, n: usize) -> io::Result<()>
 // The clamp by itself: a × 12 × 2^30, within 12 × 2^55, by 12 × 2^30.
 fn clamp(rt: &impl Print, i: usize, a: i64) -> io::Result<()> {
     if arithmetic::size(a) <= 33554432 {
-        line(
-            rt,
-            b"clamp",
-            i,
-            a,
-            arithmetic::sample(a * 12884901888, 12) as i64,
-        )?;
+        println!(rt; "clamp,{i},{a},{}", arithmetic::sample(a * 12884901888, 12))?;
     }
     Ok(())
 }
 
 fn clamps(rt: &impl Print) -> io::Result<()> {
-    for i in 0..COUNT {
-        let a = SUMS[i];
-        clamp(rt, i, a)?;
+    for (i, a) in SUMS.iter().enumerate() {
+        clamp(rt, i, *a)?;
     }
     Ok(())
 }
@@ -175,95 +156,56 @@ fn clamps(rt: &impl Print) -> io::Result<()> {
 fn cosines(rt: &impl Print) -> io::Result<()> {
     let cos = cosine::quarter_turn();
     for t in 0..1800 {
-        report::word(rt, b"C")?;
-        report::count(rt, t)?;
-        report::field(rt, cosine::cosine(&cos, t))?;
-        report::end(rt)?;
+        println!(rt; "C,{t},{}", cosine::cosine(&cos, t))?;
     }
     Ok(())
+}
+
+// A line of `count` values behind its word.
+fn row<F: Fn(usize) -> i64>(rt: &impl Print, word: &str, count: usize, value: F) -> io::Result<()>
+    requires { (i : ℕ) → i < count → F.pre value i }
+{
+    print!(rt; "{word}")?;
+    for i in 0..count {
+        print!(rt; ",{}", value(i))?;
+    }
+    println!(rt; "")
 }
 
 fn windows(rt: &impl Print, n: usize) -> io::Result<()>
     requires { T (tabled n) }
 {
     let cos = cosine::quarter_turn();
-    report::word(rt, b"W")?;
-    for i in 0..n {
-        report::field(rt, cosine::window(&cos, n, i))?;
-    }
-    report::end(rt)
-}
-
-fn rise(rt: &impl Print, n: usize, shape: u32) -> io::Result<()>
-    requires { T (tabled n) }
-{
-    let cos = cosine::quarter_turn();
-    report::word(rt, b"rise")?;
-    report::count(rt, shape as usize)?;
-    for i in 0..n / 2 {
-        report::field(rt, cosine::rising(&cos, shape, n, i))?;
-    }
-    report::end(rt)
-}
-
-fn fall(rt: &impl Print, n: usize, shape: u32) -> io::Result<()>
-    requires { T (tabled n) }
-{
-    let cos = cosine::quarter_turn();
-    report::word(rt, b"fall")?;
-    report::count(rt, shape as usize)?;
-    for i in 0..n / 2 {
-        report::field(rt, cosine::falling(&cos, shape, n, i))?;
-    }
-    report::end(rt)
+    row(rt, "W", n, |i| cosine::window(&cos, n, i))
 }
 
 // The two halves of a joint of either shape.
 fn halves(rt: &impl Print, n: usize) -> io::Result<()>
     requires { T (tabled n) }
 {
-    rise(rt, n, 0)?;
-    fall(rt, n, 0)?;
-    rise(rt, n, 1)?;
-    fall(rt, n, 1)
-}
-
-fn kernel_row(rt: &impl Print, n: usize, i: usize) -> io::Result<()>
-    requires { T (tabled n) × (i < n) }
-{
     let cos = cosine::quarter_turn();
-    report::word(rt, b"K")?;
-    for k in 0..n / 2 {
-        report::field(rt, cosine::kernel(&cos, n, i, k))?;
-    }
-    report::end(rt)
+    row(rt, "rise,0", n / 2, |i| cosine::rising(&cos, 0, n, i))?;
+    row(rt, "fall,0", n / 2, |i| cosine::falling(&cos, 0, n, i))?;
+    row(rt, "rise,1", n / 2, |i| cosine::rising(&cos, 1, n, i))?;
+    row(rt, "fall,1", n / 2, |i| cosine::falling(&cos, 1, n, i))
 }
 
 fn kernels(rt: &impl Print, n: usize) -> io::Result<()>
     requires { T (tabled n) }
 {
+    let cos = cosine::quarter_turn();
     for i in 0..n {
-        kernel_row(rt, n, i)?;
+        row(rt, "K", n / 2, |k| cosine::kernel(&cos, n, i, k))?;
     }
     Ok(())
-}
-
-fn short_row(rt: &impl Print, n: usize, i: usize) -> io::Result<()>
-    requires { T (tabled n) × (i < n / 3) }
-{
-    let cos = cosine::quarter_turn();
-    report::word(rt, b"L")?;
-    for k in 0..n / 6 {
-        report::field(rt, cosine::short_kernel(&cos, n, i, k))?;
-    }
-    report::end(rt)
 }
 
 fn short_kernels(rt: &impl Print, n: usize) -> io::Result<()>
     requires { T (tabled n) }
 {
+    let cos = cosine::quarter_turn();
     for i in 0..n / 3 {
-        short_row(rt, n, i)?;
+        row(rt, "L", n / 6, |k| cosine::short_kernel(&cos, n, i, k))?;
     }
     Ok(())
 }
@@ -289,10 +231,10 @@ fn short_length(rt: &impl Print, n: usize) -> io::Result<()>
 fn lengths(rt: &impl Print) -> io::Result<()> {
     for n in 0..300 {
         if cosine::is_tabled(n) {
-            report::count(rt, n)?;
+            print!(rt; ",{n}")?;
         }
     }
-    report::end(rt)
+    println!(rt; "")
 }
 
 #[tactic(auto, unfolding(cosine::specs::Kernels::tabled, cosine::specs::Kernels::lengths, arithmetic::specs::Lists::every, arithmetic::specs::QuotientLaws::splits, arithmetic::specs::QuotientLaws::quarters))]

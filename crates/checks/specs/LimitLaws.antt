@@ -1,6 +1,9 @@
 -- Laws of the limits: a test that holds, as a size, and the tests of some numbers in a row.
-use Rattle.std.specs.Prelude.{◌≡◌, Bool, ◌&&◌, List, T, leb, length, ℤ, pos, neg_ℤ, nat_abs}
-use Rattle.std.proofs.Math.Path.{refl, sym, ap}
+use Rattle.std.specs.Prelude.{◌≡◌, Bool, ◌&&◌, List, ◌++◌, T, leb, length, take, ℤ, pos, neg_ℤ, nat_abs}
+use Rattle.std.proofs.Math.ListN.{length-append}
+use Rattle.std.proofs.Math.Seq.{length-take-le}
+use Rattle.std.proofs.lemmas.List.{get_or_append_left, get_or-append-add, get_or-take}
+use Rattle.std.proofs.Math.Path.{refl, sym, ap, ap₂}
 use Rattle.std.proofs.Common.{◌∙◌, mul-le-mul, mul_left_comm, add-zero, add-suc, leb→le}
 use Rattle.std.proofs.Math.Bool.{true, false, cond}
 use Prim.Native.Nat.{ℕ, zero, suc, ◌+◌, ◌-◌, ◌*◌, ◌/◌, ◌^◌, ◌≤◌}
@@ -8,7 +11,7 @@ use native.Mathlib.Omega.{arith}
 use Rattle.std.specs.Int.Signed.{le_z, le_z_yes}
 use Rattle.arithmetic.specs.Lists.{at, all, Small}
 use Rattle.arithmetic.specs.OrderLaws.{abs_le}
-use Rattle.arithmetic.specs.TestLaws.{all-at, all_make, both_left, both_right, both_make, is_T, is_true}
+use Rattle.arithmetic.specs.TestLaws.{all-at, all_make, all_same, both_left, both_right, both_make, is_T, is_true}
 use Rattle.cosine.specs.Kernels.{tabled}
 use Rattle.cosine.specs.LengthLaws.{tabled_length}
 use Rattle.stream.specs.Synthesis.{storage}
@@ -44,9 +47,15 @@ pub counted-most : (H : ℕ) → counted H ≡ true → H ≤ 4095
 unfolding counted
 counted-most H e = leb→le H hop_limit (both_right (leb 1 H) (leb H hop_limit) (is_T e))
 
+-- both, for a search
+pub ruleset hop_counts = (counted-some, counted-most)
+
 -- the products that the code makes are small
 pub places_few : (N : ℕ) → T (tabled N) → (B : ℕ) → B ≤ 4096 → B * (N / 2) ≤ 4096 * storage
 places_few N t B p = mul-le-mul p (let h : N / 2 ≤ storage = omega (arith, (tabled_length N t).most) in h)
+
+pub length_most : (N : ℕ) → T (tabled N) → N ≤ 216
+length_most N t = (tabled_length N t).most
 
 -- a hop's samples come in sixes, and so do the coefficients of a block and of B blocks
 pub hop_sixes : (N : ℕ) → T (tabled N) → 6 * (N / 2 / 6) ≡ N / 2
@@ -60,6 +69,15 @@ block_sixes N t B =
 
 -- ---- a test of some numbers in a row
 module _ (p : ℕ → Bool) where
+  -- with one more, both tests
+  pub all_next : (k : ℕ) {a b : Bool} → a ≡ all k p → p k ≡ b → (a && b) ≡ all (k + 1) p
+  unfolding all
+  all_next k {a} {b} e f = let z : k + 1 ≡ suc k = omega arith in rw (z, sym e, f) (both a)
+    where
+      both : (a : Bool) → (a && b) ≡ cond a b false
+      both true = refl
+      both false = refl
+
   pub between_none : (from : ℕ) → between from from p ≡ true
   unfolding between all
   between_none from = let e : from - from ≡ 0 = omega arith in rw e
@@ -108,3 +126,28 @@ module _ (p : ℕ → Bool) where
       neither : (a : Bool) → cond a false false ≡ false
       neither true = refl
       neither false = refl
+
+-- ---- a test of a list in pieces
+abbrev pub all_within : ℕ → List ℤ → Bool
+all_within b xs = all (length xs) (λ i. within (at xs i) b)
+
+pub within_append : (b : ℕ) (xs ys : List ℤ) → all_within b (xs ++ ys) ≡ cond (all_within b xs) (all_within b ys) false
+within_append b xs ys =
+    let p = λ (i : ℕ). within (at (xs ++ ys) i) b in
+    ap (λ (n : ℕ). all n p) (length-append xs ys)
+    ∙ joined p (length xs) (length ys)
+    ∙ ap₂ (λ (s t : Bool). cond s t false)
+    (all_same (length xs) p (λ i. within (at xs i) b) (λ i h. ap (λ (z : ℤ). within z b) (get_or_append_left xs ys (pos 0) i h)))
+    (all_same (length ys) (λ i. p (length xs + i)) (λ i. within (at ys i) b) (λ i h. ap (λ (z : ℤ). within z b) (get_or-append-add xs ys i (pos 0))))
+
+pub within_take : (b m : ℕ) (xs : List ℤ) → m ≤ length xs → all_within b (take m xs) ≡ all m (λ i. within (at xs i) b)
+within_take b m xs h =
+    ap (λ (n : ℕ). all n (λ i. within (at (take m xs) i) b)) (length-take-le m xs h)
+    ∙ all_same m (λ i. within (at (take m xs) i) b) (λ i. within (at xs i) b) (λ i q. ap (λ (z : ℤ). within z b) (get_or-take m xs i (pos 0) q))
+
+-- where the first piece passes, the rest decides; where it fails, all do
+pub within_passed : (b : ℕ) (xs ys zs : List ℤ) → zs ≡ xs ++ ys → all_within b xs ≡ true → all_within b ys ≡ all_within b zs
+within_passed b xs ys zs e t = sym (ap (all_within b) e ∙ within_append b xs ys ∙ rw t)
+
+pub within_failed : (b : ℕ) (xs ys zs : List ℤ) → zs ≡ xs ++ ys → all_within b xs ≡ false → all_within b zs ≡ false
+within_failed b xs ys zs e t = ap (all_within b) e ∙ within_append b xs ys ∙ rw t

@@ -31,11 +31,21 @@ use Rattle.recording.specs.Recordings.{block, analysis, synthesis}
 use Rattle.recording.specs.BlockLaws.{block-sample}
 use Rattle.levels.specs.Levels.{level, back}
 use Rattle.coarsest.specs.Coarsest.{stepped, returning, near, passes}
-use Rattle.coarsest.specs.SteppedLaws.{stepped_long, stepped-at, stepped_small}
+use Rattle.coarsest.specs.SteppedLaws.{Tried, inverse_of, stepped_long, stepped-at, stepped_small}
 
 -- every entry is a sample
 pub record Samples (x : List ℤ) : Type 0 where
   pub each : (i : ℕ) → i < length x → Sample (at x i)
+
+-- a recording of H hops, and a step with its inverse that is tried on it
+pub record Trying (N H : ℕ) (x : List ℤ) (step inverse : ℕ) : Type 0 where
+  pub length_is : T (tabled N)
+  pub some : 1 ≤ H
+  pub most : H ≤ 4095
+  pub long : length x ≡ H * (N / 2)
+  pub samples : Samples x
+  pub tried : Tried step
+  pub inverse_is : inverse ≡ inverse_of step
 
 -- the coefficients of block b of a recording, and the same by one step and back
 abbrev pub block_of : ℕ → List ℤ → ℕ → List ℤ

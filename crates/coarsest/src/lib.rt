@@ -17,12 +17,9 @@ pub fn coarsest_step(n: usize, hops: usize, x: &[i16], allowed: u32, budget: usi
     ensures { result ≡ coarsest n hops x.now allowed budget }
 {
     trial::are_samples(x);
-    let mut s = step_search::begin(allowed, budget);
-    while step_search::is_unfinished(s) {
-        if trial::trial(n, hops, x, allowed, s.step) {
-            return step_search::after_success(s);
-        }
-        s = step_search::after_failure(s);
-    }
-    step_search::without_success(s)
+    step_search::find_coarsest(
+        allowed,
+        budget,
+        |step| trial::is_passed(n, hops, x, allowed, step),
+    )
 }

@@ -10,6 +10,7 @@ ghost use Rattle.coarsest.specs.SteppedLaws.{Tried, inverse_of};
 const SCALE: u64 = 549755813888;
 
 // The next whole number above 2^39 / step.
+#[tactic(auto, using(crate::specs::SteppedLaws::inverse_most), unfolding(crate::specs::SteppedLaws::inverse_of))]
 pub fn inverse(step: u32) -> u64
     requires { Tried step }
     ensures { result ≡ inverse_of step }
@@ -30,16 +31,14 @@ fn nearest(size: u32, step: u32, inverse: u64) -> u32
 }
 
 // A coefficient by its step and back.
+#[tactic(auto, using(crate::specs::SteppedLaws::back_above, crate::specs::SteppedLaws::back_below, crate::specs::SteppedLaws::multiple_small))]
 fn stepped(x: i32, step: u32, inverse: u64) -> i32
     requires x_bound { nat_abs x ≤ 216 * 2 ^ 21 }
     requires tried { Tried step × (inverse ≡ inverse_of step) }
     ensures { result ≡ back step (level step x) }
 {
-    let size = nearest(levels::magnitude(x), step, inverse) as i32;
-    if x < 0 {
-        return -size;
-    }
-    size
+    let size = nearest(x.unsigned_abs(), step, inverse) as i32;
+    if x < 0 { -size } else { size }
 }
 
 // The coefficients of a block.
@@ -48,7 +47,7 @@ pub fn step_block(x: &mut [i32], step: u32, inverse: u64)
     requires tried { Tried step × (inverse ≡ inverse_of step) }
     ensures { x.new ≡ stepped step x.old }
 {
-    for k in 0..x.len() {
-        x[k] = stepped(x[k], step, inverse);
+    for entry in x.iter_mut() {
+        *entry = stepped(*entry, step, inverse);
     }
 }

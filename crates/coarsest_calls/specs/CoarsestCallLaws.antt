@@ -10,7 +10,7 @@ use Rattle.checks.specs.Limits.{counted}
 use Rattle.checks.specs.Causes.{First, first_cause}
 use Rattle.checks.specs.CauseLaws.{first_is, leaves, spared, Passed, passed}
 use Rattle.coarsest.specs.Coarsest.{coarsest}
-use Rattle.coarsest_calls.specs.declared.Coarsest.{Coarsest}
+use Rattle.coarsest_calls.specs.Answers.{Coarsest}
 use Rattle.coarsest_calls.specs.CoarsestCalls.{most_allowed, coarsest_causes, coarsest_code, answered_with, refused_with, coarsest_answer, find_causes, find_code, numbers_of, find_out}
 
 -- the answer read from room for three numbers

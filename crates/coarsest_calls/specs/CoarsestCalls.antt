@@ -5,7 +5,7 @@ use Rattle.checks.specs.Limits.{counted}
 use Rattle.checks.specs.Causes.{Cause, ◌unless◌, first_cause}
 use Rattle.step_search.specs.declared.Found.{Found}
 use Rattle.coarsest.specs.Coarsest.{coarsest}
-use Rattle.coarsest_calls.specs.declared.Coarsest.{Coarsest}
+use Rattle.coarsest_calls.specs.Answers.{Coarsest}
 
 -- the largest distance that may be allowed
 abbrev pub most_allowed : ℕ

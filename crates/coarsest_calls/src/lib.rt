@@ -2,20 +2,31 @@
 // `coarsest`. No call has a requires: any numbers and any lengths may be handed in.
 #![tactic(auto)]
 
-ghost use Rattle.std.specs.Prelude.{◌≡◌};
-ghost use Rattle.coarsest_calls.specs.CoarsestCalls.{coarsest_answer, find_code, find_out};
+ghost use Rattle.std.specs.Prelude.{◌≡◌, ◌≤◌, IfOk, OnOk, leb};
+ghost use Rattle.coarsest.specs.Coarsest.{coarsest};
+ghost use Rattle.refusals.specs.Answers.{code_of, refused_unless};
+ghost use Rattle.coarsest_calls.specs.Answers.{read_coarsest};
+ghost use Rattle.coarsest_calls.specs.CoarsestCalls.{most_allowed, coarsest_answer, find_code, find_out};
 
-// What `coarsest_step` answers: a number, the step, the trials made, and how many untried steps lie above the step; all 0 beside a refusal.
-#[derive(Clone, Copy)]
-pub struct Coarsest {
-    pub code: u32,
-    pub step: u32,
-    pub trials: u32,
-    pub untried: u32,
+use checks::{Refusal, check_hops, check_length, check_size, refuse_unless};
+
+/// What `coarsest_step` answers: the step, the trials made, and how many untried steps lie above the step.
+pub use step_search::Found as Coarsest;
+
+// The largest distance that may be allowed.
+const MOST_ALLOWED: u32 = 32;
+
+// The allowed distance is one that the documents offer.
+fn check_allowed(allowed: u32) -> Result<(), Refusal>
+    ensures answer { result ≡ refused_unless (leb allowed most_allowed) Refusal.Distance }
+    ensures most { OnOk result (allowed ≤ 32) }
+{
+    refuse_unless(allowed <= MOST_ALLOWED, Refusal::Distance)
 }
 
-// The coarsest step for a recording into room for three numbers, for C: the step, the trials and the untried steps. 1: n is not tabled. 2: the number of hops is not 1 to
-// 4,095, or a length is not the stated one. 12: the allowed distance is above 32. Refused, the room is left alone.
+/// The coarsest step for a recording into room for three numbers, for C: the step, the trials and the untried steps. Length (1): n is not tabled. Size (2): the number of hops
+/// is not 1 to 4,095, or a length is not the stated one. Distance (12): the allowed one is above 32. Refused, the room is left alone.
+#[tactic(auto, using(checks::specs::LimitLaws::places_few), unfolding(crate::specs::CoarsestCalls::find_code, crate::specs::CoarsestCalls::find_causes, crate::specs::CoarsestCalls::find_out, crate::specs::CoarsestCalls::numbers_of, checks::specs::Causes::first_cause))]
 pub fn find_step(
     n: usize,
     hops: usize,
@@ -23,46 +34,36 @@ pub fn find_step(
     allowed: u32,
     budget: usize,
     room: &mut [u32],
-) -> u32
-    ensures value { result ≡ find_code n hops x.now allowed room.old }
+) -> Result<(), Refusal>
+    ensures code { code_of result ≡ find_code n hops x.now allowed room.old }
     ensures room_after { room.new ≡ find_out n hops x.now allowed budget room.old }
 {
-    if !cosine::is_tabled(n) {
-        return 1;
-    }
-    if !checks::is_counted(hops) {
-        return 2;
-    }
-    let samples = hops * (n / 2);
-    if x.len() != samples {
-        return 2;
-    }
-    if room.len() != 3 {
-        return 2;
-    }
-    if allowed > 32 {
-        return 12;
-    }
+    check_length(n)?;
+    check_hops(hops)?;
+    check_size(x.len(), hops * (n / 2))?;
+    check_size(room.len(), 3)?;
+    check_allowed(allowed)?;
     let found = coarsest::coarsest_step(n, hops, x, allowed, budget);
-    room[0] = found.step;
-    room[1] = found.trials;
-    room[2] = found.untried;
-    0
+    room.copy_from_slice(&[found.step, found.trials, found.untried]);
+    Ok(())
 }
 
-// The same by value: the largest single step from 1 to 1,024 with which every sample of the recording returns within `allowed`, as far as a budget of trials goes.
-pub fn coarsest_step(n: usize, hops: usize, x: &[i16], allowed: u32, budget: usize) -> Coarsest
-    ensures { result ≡ coarsest_answer n hops x.now allowed budget }
+/// The same by value: the largest single step from 1 to 1,024 with which every sample of the recording returns within `allowed`, as far as a budget of trials goes.
+#[tactic(auto, using(checks::specs::LimitLaws::places_few), unfolding(crate::specs::CoarsestCalls::coarsest_answer, crate::specs::CoarsestCalls::coarsest_code, crate::specs::CoarsestCalls::coarsest_causes, checks::specs::Causes::first_cause))]
+pub fn coarsest_step(
+    n: usize,
+    hops: usize,
+    x: &[i16],
+    allowed: u32,
+    budget: usize,
+) -> Result<Coarsest, Refusal>
+    ensures answer { read_coarsest result ≡ coarsest_answer n hops x.now allowed budget }
+    ensures ok { IfOk result (λ found. found ≡ coarsest n hops x.now allowed budget) }
 {
-    let mut room = [0u32; 3];
-    let code = find_step(n, hops, x, allowed, budget, &mut room);
-    let step = room[0];
-    let trials = room[1];
-    let untried = room[2];
-    Coarsest {
-        code,
-        step,
-        trials,
-        untried,
-    }
+    check_length(n)?;
+    check_hops(hops)?;
+    let samples = hops * (n / 2);
+    check_size(x.len(), samples)?;
+    check_allowed(allowed)?;
+    Ok(coarsest::coarsest_step(n, hops, x, allowed, budget))
 }

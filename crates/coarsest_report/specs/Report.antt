@@ -8,7 +8,7 @@ use Rattle.text.specs.Refusal.{refusal}
 use Rattle.listing.specs.Hops.{digits}
 use Rattle.listing.specs.Verdicts.{verdict, hops_of}
 use Rattle.listing.specs.Listing.{recording}
-use Rattle.coarsest_calls.specs.declared.Coarsest.{Coarsest}
+use Rattle.coarsest_calls.specs.Answers.{Coarsest}
 use Rattle.coarsest_calls.specs.CoarsestCalls.{most_allowed, coarsest_answer}
 
 -- ---- what is typed

@@ -11,10 +11,10 @@ use Rattle.text.specs.NumberLaws.{and_left, and_right}
 use Rattle.text.specs.Lines.{line, more}
 use Rattle.text.specs.Refusal.{refusal}
 use Rattle.listing.specs.Hops.{digits}
-use Rattle.listing.specs.declared.verdict.Verdict.{Verdict}
+use Rattle.listing.specs.Verdicts.{Verdict}
 use Rattle.listing.specs.Verdicts.{verdict, hops_of}
 use Rattle.listing.specs.Listing.{recording}
-use Rattle.coarsest_calls.specs.declared.Coarsest.{Coarsest}
+use Rattle.coarsest_calls.specs.Answers.{Coarsest}
 use Rattle.coarsest_calls.specs.CoarsestCalls.{most_allowed, coarsest_answer}
 use Rattle.coarsest_report.specs.Report.{is_whole, whole_of, distance_of, budget_of, found_lines, answer_of, report_of}
 

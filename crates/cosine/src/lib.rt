@@ -1,6 +1,7 @@
 // The cosine table, the window and the kernels, read at any place. The facts about them are in specs/.
 // No function here is a public call: the public calls and `listing` call `is_tabled`. The others are read by `shares` and by test programs: the bank lends the
-// tables of `tables`, which are proved from the same definitions. Who reads the table is lent it: a const that is read in place is copied at each access.
+// tables of `windows`, `blocks` and `split`, which are proved from the same definitions. Who reads the table is lent it, with the
+// clause that it is the definition's: `quarter_turn` makes it, as docs/READING.md says.
 #![tactic(auto)]
 
 ghost use Rattle.std.specs.Prelude.{◌≡◌, ◌≤◌, ◌<◌, ◌*◌, ◌/◌, T, pos};
@@ -44,25 +45,11 @@ const COS: [i32; 217] = [
 ];
 
 // N is 12, 24, 36, 72, 108 or 216.
+#[tactic(auto, unfolding(crate::specs::Kernels::tabled, crate::specs::Kernels::lengths, arithmetic::specs::Lists::every))]
 pub fn is_tabled(n: usize) -> bool
     ensures { result ≡ tabled n }
 {
-    if n == 12 {
-        return true;
-    }
-    if n == 24 {
-        return true;
-    }
-    if n == 36 {
-        return true;
-    }
-    if n == 72 {
-        return true;
-    }
-    if n == 108 {
-        return true;
-    }
-    n == 216
+    n == 12 || n == 24 || n == 36 || n == 72 || n == 108 || n == 216
 }
 
 // C(0) .. C(216), to be lent.
@@ -99,7 +86,7 @@ pub fn cosine(cos: &[i32; 217], t: usize) -> i64
     first_quarter(cos, TURN - r)
 }
 
-// d = 216/N of a tabled N, without a division.
+// d = 216/N of a tabled N, without a division. `if` and not `match`: its last arm has to know that N is none of the others.
 fn parts(n: usize) -> usize
     requires { T (tabled n) }
     ensures { result ≡ d n }
@@ -149,7 +136,7 @@ fn short_rise(cos: &[i32; 217], n: usize, i: usize) -> i64
     67108864
 }
 
-// Entry i of the rising half of a joint of this shape.
+// Entry i of the rising half of a joint of this shape, a number as in the definition: 0 is long, any other short.
 pub fn rising(cos: &[i32; 217], shape: u32, n: usize, i: usize) -> i64
     requires cos_value { cos.now ≡ numbers }
     requires tabled { T (tabled n) × (i < n / 2) }

@@ -1,5 +1,5 @@
 -- Laws of the public calls' numbers: `demand_1`, that every call answers as the documents' tables of causes say.
-use Rattle.std.specs.Prelude.{◌≡◌, refl, ◌≢◌, Bool, true, false, cond, List, ◌∷◌, ℕ, ◌+◌, ◌*◌, ◌/◌, ◌^◌, ◌<◌, eqb, length, ℤ, pos, ◌<ℤ◌}
+use Rattle.std.specs.Prelude.{◌≡◌, refl, ◌≢◌, Bool, true, false, cond, List, ℕ, ◌+◌, ◌*◌, ◌/◌, ◌^◌, ◌<◌, eqb, length, ℤ, pos, ◌<ℤ◌}
 use Rattle.std.proofs.Common.{sym, ap, ◌∙◌, arith, eq-eqb, ne_eqb}
 use Rattle.std.proofs.Math.Decide.{ℕ_discrete}
 use Rattle.arithmetic.specs.Lists.{at}
@@ -12,17 +12,16 @@ use Rattle.analysis.specs.declared.Route.{Route}
 use Rattle.analysis.specs.Analysis.{coefficients}
 use Rattle.orders.specs.declared.Order.{Order}
 use Rattle.recording.specs.Recordings.{analysis, synthesis}
-use Rattle.stream_calls.specs.declared.Made.{Made}
-use Rattle.checks.specs.Causes.{Cause, ◌unless◌, First}
+use Rattle.stream_calls.specs.Answers.{Made}
 use Rattle.checks.specs.Causes.First.{none, stop, pass}
 use Rattle.checks.specs.CauseLaws.{first_is, same, differs, beside}
 use Rattle.block_calls.specs.Analysis.{analyse_causes, analyse_code, analyse_out}
 use Rattle.checks.specs.Limits.{counted}
-use Rattle.stream_calls.specs.Streams.{fresh, sound, fits, step_causes, step_code, step}
+use Rattle.stream_calls.specs.Streams.{fresh, step_causes, step_code, step}
 use Rattle.recording_calls.specs.Recordings.{recorded_causes, recorded_code, recorded_out, played_causes, played_code, played_out, shaped, inner_of}
 use Rattle.page.specs.Page.{page_of, page_causes, page_code, page_out}
-use Rattle.state_calls.specs.States as F
-use Rattle.state_calls.specs.StateLaws.{fresh_holds, fresh_long, same_code, same_out, same_stream, same_long}
+use Rattle.stream_calls.specs.States as F
+use Rattle.stream_calls.specs.StateLaws.{fresh_holds, fresh_long, same_code, same_out, same_stream, same_long}
 use Rattle.demands.specs.ListingAnswerLaws.{listing-answers}
 use Rattle.demands.proofs.TableAnswerLaws.{table-answers}
 use Rattle.demands.proofs.LevelAnswerLaws.{quantise-answers, dequantise-answers, told-answers, tell-answers, report_answers, step_levels-answers, state_levels_answers, last_number}
@@ -31,8 +30,8 @@ use Rattle.demands.specs.OrderAnswerLaws.{reorder_answers, number-answers, recor
 use Rattle.demands.specs.FloatAnswerLaws.{floats-answers, ends_answers, pair_answers}
 use Rattle.demands.specs.CoarseAnswerLaws.{coarsest-answers, find-answers, found_report_answers}
 use Rattle.demands.specs.StepLaws.{code_other, refused_stream, refused_buffer}
-use Rattle.demands.specs.CauseTestLaws.{counts, counts_not, ranges, ranges_not, sounds, sounds_not_n, sounds_not_tail, shapes_true, shapes_false, fits-true, fits_not, fits-other, fits_forged, negative, no_length_0, shape-negative, shape-large}
-use Rattle.demands.specs.Answers.{Tabled, SoundTail, Fitting, AnalyseAnswers, FreshAnswers, StepAnswers, RecordedAnswers, PlayedAnswers, InnerAnswers, PageAnswers, StateFreshAnswers, StateStepAnswers}
+use Rattle.demands.specs.CauseTestLaws.{counts, counts_not, ranges, ranges_not, shapes_true, shapes_false, negative, no_length_0, shape-negative, shape-large, recording_causes, AdmittingCauses, admitting_causes, admitted}
+use Rattle.demands.specs.Answers.{Tabled, SoundTail, AnalyseAnswers, FreshAnswers, StepAnswers, RecordedAnswers, PlayedAnswers, InnerAnswers, PageAnswers, StateFreshAnswers, StateStepAnswers}
 use Rattle.demands.specs.Demands.{Demand1}
 
 -- ---- a buffer's shape, whichever of its tests fails
@@ -71,27 +70,23 @@ unfolding step_causes step_code step
 step-answers s number l r x out =
     let M = s.n / 2 in
     let cs = step_causes s number l r x out in
+    let a : AdmittingCauses s number l r (step_code s number l r x out) = admitting_causes s number l r _ in
     record {
-      four_n = λ n. first_is cs (stop (sounds_not_n s n));
-      four_tail = λ n. first_is cs (stop (sounds_not_tail s n));
-      seven = λ t h n. first_is cs (pass (sounds s t h) (differs n));
-      seven_none = λ t h p q. first_is cs (pass (sounds s t h) (differs (λ (e : number ≡ s.expected). omega (arith, e, p, q))));
-      eight = λ t h e n. first_is cs (pass (sounds s t h) (same e (stop (fits_not s l r n))));
-      eight_left = λ t h e n. first_is cs (pass (sounds s t h) (same e (stop (fits-other s l r n))));
-      eight_forged = λ t h e p. first_is cs (pass (sounds s t h) (same e (stop (fits_forged s l r p))));
-      two_in = λ f n. first_is cs (passing f (differs n));
-      two_out = λ f n. first_is cs (passing f (beside (differs n)));
-      three = λ f p q n. first_is cs (passing f (same p (same q (stop (ranges_not x M p n)))));
-      taken = λ f p q h. first_is cs (passing f (same p (same q (pass (ranges x M p h) none))));
+      four_n = a.four_n;
+      four_tail = a.four_tail;
+      seven = a.seven;
+      seven_none = a.seven_none;
+      eight = a.eight;
+      eight_left = a.eight_left;
+      eight_forged = a.eight_forged;
+      two_in = λ f n. first_is cs (admitted s number l r f (differs n));
+      two_out = λ f n. first_is cs (admitted s number l r f (beside (differs n)));
+      three = λ f p q n. first_is cs (admitted s number l r f (same p (same q (stop (ranges_not x M p n)))));
+      taken = λ f p q h. first_is cs (admitted s number l r f (same p (same q (pass (ranges x M p h) none))));
       code = refl;
       kept_stream = λ k. refused_stream s number l r x out k;
       kept = λ k. refused_buffer s number l r x out k;
     }
-  where
-    -- the causes of a fitting block are those behind the first three
-    passing : {k : ℕ} {cs : List Cause} → Fitting s number l r → First cs k →
-        First (4 unless sound s ∷ 7 unless eqb number s.expected ∷ 8 unless fits l r s.shape ∷ cs) k
-    passing f g = pass (sounds s f.length_is f.tail_is) (same f.number_is (pass (fits-true s l r f.shapes f.left_is) g))
 
 recorded_answers : (route : Route) (order : Order) (N H : ℕ) (x out : List ℤ) → RecordedAnswers route order N H x out
 unfolding recorded_causes recorded_code recorded_out
@@ -109,16 +104,15 @@ recorded_answers route order N H x out =
 played_answers : (order : Order) (N H : ℕ) (x out : List ℤ) → PlayedAnswers order N H x out
 unfolding played_causes played_code played_out
 played_answers order N H x out =
-    let m = (H + 1) * (N / 2) in
-    let cs = played_causes N H x out in
+    let r = recording_causes N H x ((H + 1) * (N / 2)) (length out) (H * (N / 2)) in
     record {
-      one = λ n. first_is cs (stop (is_false n));
-      two_hops = λ t n. first_is cs (pass (is_true t) (stop (counts_not H n)));
-      two_in = λ t n. first_is cs (pass (is_true t) (beside (differs n)));
-      two_out = λ t n. first_is cs (pass (is_true t) (beside (beside (differs n))));
-      three = λ t k l f n. first_is cs (pass (is_true t) (pass (counts H k) (same l (same f (stop (ranges_not x m l n))))));
-      taken = λ t k l f r. first_is cs (pass (is_true t) (pass (counts H k) (same l (same f (pass (ranges x m l r) none)))));
-      kept = λ r. code_other (played_code N H x out) (synthesis order N H x) out r;
+      one = r.one;
+      two_hops = r.two_hops;
+      two_in = r.two_in;
+      two_out = r.two_out;
+      three = r.three;
+      taken = r.taken;
+      kept = λ n. code_other (played_code N H x out) (synthesis order N H x) out n;
     }
 
 inner-answers : (N H : ℕ) (out : List ℤ) → InnerAnswers N H out
@@ -136,16 +130,15 @@ inner-answers N H out =
 page_answers : (order : Order) (N H : ℕ) (x : List ℤ) (out : List ℕ) → PageAnswers order N H x out
 unfolding page_causes page_code page_out
 page_answers order N H x out =
-    let m = (H + 1) * (N / 2) in
-    let cs = page_causes N H x out in
+    let r = recording_causes N H x ((H + 1) * (N / 2)) (length out) ((H + 1) * (N / 2 / 6) * 81) in
     record {
-      one = λ n. first_is cs (stop (is_false n));
-      two_hops = λ t n. first_is cs (pass (is_true t) (stop (counts_not H n)));
-      two_in = λ t n. first_is cs (pass (is_true t) (beside (differs n)));
-      two_out = λ t n. first_is cs (pass (is_true t) (beside (beside (differs n))));
-      three = λ t k l f n. first_is cs (pass (is_true t) (pass (counts H k) (same l (same f (stop (ranges_not x m l n))))));
-      taken = λ t k l f r. first_is cs (pass (is_true t) (pass (counts H k) (same l (same f (pass (ranges x m l r) none)))));
-      kept = λ r. code_other (page_code N H x out) (page_of order N H x) out r;
+      one = r.one;
+      two_hops = r.two_hops;
+      two_in = r.two_in;
+      two_out = r.two_out;
+      three = r.three;
+      taken = r.taken;
+      kept = λ n. code_other (page_code N H x out) (page_of order N H x) out n;
     }
 
 -- ---- the calls for C on a state

@@ -5,8 +5,8 @@ use Rattle.std.proofs.Common.{◌∙◌}
 use Rattle.stream.specs.declared.Stream.{Stream}
 use Rattle.analysis.specs.declared.Route.{Route}
 use Rattle.stream_calls.specs.Streams.{step}
-use Rattle.state_calls.specs.States.{entries, stream_in, fresh_code, fresh_state, step_state}
-use Rattle.state_calls.specs.StateLaws.{fresh-tabled, fresh_holds, fresh_long, same_code, same_out, same_stream, same_long}
+use Rattle.stream_calls.specs.States.{entries, stream_in, fresh_code, fresh_state, step_state}
+use Rattle.stream_calls.specs.StateLaws.{fresh-tabled, fresh_holds, fresh_long, same_code, same_out, same_stream, same_long}
 use Rattle.demands.specs.Steps.{Offer, answered, run, after, turns, final, Recording, Numbered, Answered, Returned, WholeReturned, ReturnedOneQ, Sharper}
 use Rattle.demands.specs.Chains.{called, calls, held}
 use Rattle.demands.proofs.ThereAndBackLaws.{every_list, there_and_back, whole-returned, returned-one, there_and_back_sharper}

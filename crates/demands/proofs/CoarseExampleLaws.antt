@@ -1,10 +1,9 @@
 -- The theorems of the coarsest step applied to Example's single hop, with an allowed distance of 4: step 1,024 returns a sample 6 away, and 1,023 passes. All is computed from the definitions.
-use Rattle.std.specs.Prelude.{◌≡◌, List, [], ◌∷◌, ℕ, ◌+◌, ◌-◌, ◌*◌, ◌/◌, ◌≤◌, ◌<◌, T, eqb, length, replicate, ℤ, pos}
+use Rattle.std.specs.Prelude.{◌≡◌, List, [], ◌∷◌, ℕ, ◌+◌, ◌-◌, ◌*◌, ◌/◌, ◌≤◌, ◌<◌, T, eqb, length}
 use Rattle.std.proofs.Math.Path.{refl}
 use Rattle.std.proofs.Common.{ap, ◌∙◌, arith, eqb→eq, lit<, lit≤}
 use Rattle.arithmetic.specs.Lists.{all}
 use Rattle.arithmetic.specs.TestLaws.{all-at}
-use Rattle.text.specs.Bytes.{ascii}
 use Rattle.analysis.specs.declared.Route.TheVariants.{Direct}
 use Rattle.analysis.specs.Analysis.{offered}
 use Rattle.orders.specs.declared.Order.TheVariants.{ByBlock}
@@ -16,7 +15,7 @@ use Rattle.recording.specs.Recordings.{synthesis}
 use Rattle.stream.specs.Steps.{stream_after, returned}
 use Rattle.step_search.specs.Search.{sure, searched, course, found}
 use Rattle.coarsest.specs.Coarsest.{stepped, returning, passes, coarsest}
-use Rattle.coarsest_calls.specs.declared.Coarsest.{Coarsest}
+use Rattle.coarsest_calls.specs.Answers.{Coarsest}
 use Rattle.coarsest_calls.specs.CoarsestCalls.{coarsest_causes, coarsest_code, coarsest_answer, find_code, find_out}
 use Rattle.demands.specs.Coarse.{Keeps, Fails, FoundOn}
 use Rattle.demands.specs.Answers.{Counted, Ruled}
@@ -28,6 +27,7 @@ use Rattle.demands.specs.CoarseAnswerLaws.{find-answers}
 use Rattle.demands.specs.Example.{knock}
 use Rattle.demands.proofs.ExampleLaws.{computed, answers, twelve, knock_recorded}
 use Rattle.demands.proofs.LevelExampleLaws.{ruled}
+use Rattle.demands.specs.CoarseExamples.{two_blocks, second, spent, sure_table}
 
 -- ---- what the calls ask for
 one-hop : Counted 1
@@ -36,11 +36,7 @@ one-hop = record { some = lit≤ tt; most = lit≤ tt }
 knock_long : length knock ≡ 1 * (12 / 2)
 knock_long = unfold knock in refl
 
--- a buffer for its two blocks
-unfoldable pub two_blocks : List ℤ
-two_blocks = replicate 12 (pos 9)
-
-knock-taken : recorded_code Direct 12 1 knock two_blocks ≡ 0
+pub knock-taken : recorded_code Direct 12 1 knock two_blocks ≡ 0
 unfolding offered two_blocks
 knock-taken = (demand_1.recorded Direct ByBlock 12 1 knock two_blocks).taken twelve one-hop knock_long refl
 
@@ -59,14 +55,8 @@ one_trial = refl
 answered : (budget : ℕ) (r : Coarsest) → coarsest_answer 12 1 knock 4 budget ≡ r → r.code ≡ 0 → FoundOn 12 1 knock 4 budget r
 answered budget r e z = rw e at (found_on 12 1 knock 4 budget knock_recorded.sample (ap (λ (a : Coarsest). a.code) e ∙ z))
 
-abbrev pub second : Coarsest
-second = record { code = 0; step = 1023; trials = 2; untried = 0 }
-
 pub by_two : FoundOn 12 1 knock 4 5 second
 by_two = answered 5 second two_trials refl
-
-abbrev pub spent : Coarsest
-spent = record { code = 0; step = 143; trials = 1; untried = 880 }
 
 pub by_one : FoundOn 12 1 knock 4 1 spent
 by_one = answered 1 spent one_trial refl
@@ -97,10 +87,6 @@ keeps_144 = passes_keeps 12 1 knock knock_recorded.sample 4 144 (next-passes 12 
 pub added_up : (second.untried ≡ 0) × (second.trials ≡ 1024 - second.step + 1)
 unfolding sure
 added_up = by_two.adds_up_above (lit< tt)
-
--- ---- a table of the sure step: every coefficient of the recording goes through it, and what is told of it is 4
-unfoldable pub sure_table : List ℕ
-sure_table = ascii "0,5,143\n"
 
 pub sure-ruled : Ruled 12 sure_table
 unfolding answers ruled sure_table

@@ -43,7 +43,7 @@ use Rattle.recording.specs.BlockLaws.{block_long}
 use Rattle.arithmetic.specs.JoinLaws.{joined_front}
 use Rattle.analysis.specs.AnalysisLaws.{offered-tabled, coefficients-length}
 use Rattle.recording.specs.RecordingLaws.{part_range, stream_fine}
-use Rattle.stream_calls.specs.declared.Made.{Made}
+use Rattle.stream_calls.specs.Answers.{Made}
 use Rattle.block_calls.specs.Analysis.{analyse_causes, analyse_code, analyse_out}
 use Rattle.checks.specs.Causes.First.{none, pass}
 use Rattle.checks.specs.CauseLaws.{same}

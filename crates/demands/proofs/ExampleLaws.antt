@@ -1,6 +1,6 @@
 -- The theorems `there_and_back`, `whole-returned` and `returned-one` applied to the lists of Example, so that nobody has to believe that their hypotheses can be met. All is computed from the
 -- definitions, the cosine from its series.
-use Rattle.std.specs.Prelude.{◌≡◌, refl, Bool, false, cond, List, [], ◌∷◌, ℕ, suc, ◌+◌, ◌*◌, ◌/◌, ◌%◌, ◌^◌, ◌≤◌, ◌<◌, T, leb, length, take, drop, replicate, ℤ, pos, nat_abs, ◌-ℤ◌}
+use Rattle.std.specs.Prelude.{◌≡◌, refl, Bool, false, cond, List, [], ◌∷◌, ℕ, suc, ◌+◌, ◌*◌, ◌/◌, ◌%◌, ◌^◌, ◌≤◌, ◌<◌, T, leb, length, take, drop, ℤ, pos, nat_abs, ◌-ℤ◌}
 use Rattle.std.proofs.Common.{sym, ap, ◌∙◌, arith, leb→le, lit<, lit≤, ext_get_or, get_or-take, get_or-drop}
 use Rattle.std.proofs.lemmas.List.{get_or-replicate}
 use Rattle.std.specs.Int.Signed.{le_z, le_z_yes}
@@ -18,18 +18,16 @@ use Rattle.stream.specs.Synthesis as Y
 use Rattle.stream.specs.Synthesis.{storage}
 use Rattle.analysis.specs.declared.Route.{Route}
 use Rattle.analysis.specs.Analysis.{offered, spectrum, coefficients, units_of}
-use Rattle.recording.specs.Recordings.{silence, padded, standing, block}
+use Rattle.recording.specs.Recordings.{silence, padded, standing, block, analysis as recording_of}
 use Rattle.orders.specs.Orders.{place, block_at, coefficient_at, part, laid}
-use Rattle.recording.specs.Recordings.{analysis as recording_of}
 use Rattle.stream.specs.Steps.{next, hop}
 use Rattle.checks.specs.Causes.{first_cause}
 use Rattle.block_calls.specs.Analysis.{analyse_causes, analyse_code, analyse_out}
 use Rattle.checks.specs.Limits.{counted, within, tail_limit, in_range, are_shapes}
 use Rattle.recording_calls.specs.Recordings.{recorded_causes, recorded_code, recorded_out, played_causes, played_code}
-use Rattle.stream.specs.declared.Stream.{Stream}
 use Rattle.level_calls.specs.LevelCalls as L
 use Rattle.stream_calls.specs.Streams.{fresh, sound_tail, sound, fits, step_causes, step_code, step, step_out}
-use Rattle.state_calls.specs.States.{entries, number_in as entry_number, stream_in, fresh_causes, fresh_code, fresh_state, step_code as state_code}
+use Rattle.stream_calls.specs.States.{number_in as entry_number, stream_in, fresh_causes, fresh_code, fresh_state, step_code as state_code}
 use Rattle.demands.specs.Steps.{Offer, Turn, answered, run, taken, offers_of, turns, final, Entry, Recording, Brought, Numbered, change, Answered, Returned, WholeReturned, ReturnedOneQ, Sharper}
 use Rattle.demands.specs.Steps.Entry.{first, later}
 use Rattle.demands.proofs.RunLaws.{no_entry, entry-offer, entry-turn}
@@ -40,6 +38,7 @@ use Rattle.demands.proofs.AnswerLaws.{demand_1}
 use Rattle.demands.proofs.DefinitionLaws.{demand_2}
 use Rattle.demands.specs.Answers.{SoundTail}
 use Rattle.demands.specs.Example.{minus, recording, routes, knock, directly, changed, analysed_0, block_0, block_1, block_2, block_3, sharp_1, sharp_2, knock_1, room, small_room, five, loud, low, offer, offers, coarse_3, bounds, uneven_offers, knock_offers, sparse_0, slight_0, sparse_offers, slight_offers, at_the_last, whole, hops_room, knock_whole, sparse_whole}
+use Rattle.demands.specs.ListExamples.{codes_of, nines, TakenStep, forged, below_zero, misshapen}
 
 -- ---- the definitions that the tests below open, under one name
 cosines : Unit {0}
@@ -66,12 +65,7 @@ unfoldable pub answers : Unit {0}
 unfolding computed short_lengths short_tabled R.offered D.offered offered analyse_causes analyse_code analyse_out counted joined place block_at coefficient_at part laid recorded_causes recorded_code recorded_out recording_of played_causes played_code whole hops_room knock_whole sparse_whole
 answers = tt
 
--- the numbers that the steps return
-codes_of : List Turn → List ℕ
-codes_of [] = []
-codes_of (t ∷ ts) = t.answer.code ∷ codes_of ts
-
-codes : codes_of (turns 12 offers) ≡ 7 ∷ 8 ∷ 2 ∷ 0 ∷ 7 ∷ 8 ∷ 3 ∷ 7 ∷ 0 ∷ 8 ∷ 2 ∷ 0 ∷ 7 ∷ 7 ∷ 3 ∷ 0 ∷ 3 ∷ 7 ∷ []
+pub codes : codes_of (turns 12 offers) ≡ 7 ∷ 8 ∷ 2 ∷ 0 ∷ 7 ∷ 8 ∷ 3 ∷ 7 ∷ 0 ∷ 8 ∷ 2 ∷ 0 ∷ 7 ∷ 7 ∷ 3 ∷ 0 ∷ 3 ∷ 7 ∷ []
 unfolding computed codes_of
 codes = refl
 
@@ -166,7 +160,7 @@ brought Q routes H x b l r c p o e t =
     record { exists = p; offers = o; long = e; near = λ k q. leb→le (off k) (Q b) (all-at 6 (λ k. leb (off k) (Q b)) t k q) }
 
 -- the taken steps bring the blocks of their numbers
-numbered : Numbered 12 3 (λ b. 7) routes recording (turns 12 offers)
+pub numbered : Numbered 12 3 (λ b. 7) routes recording (turns 12 offers)
 numbered = record { each = λ j t e. go (rw taken-offers at (entry-offer e)) }
   where
     go : {j : ℕ} {o : Offer} → Entry brought_offers j o → Brought 12 3 (λ b. 7) routes recording o.number o.left o.right o.brought
@@ -176,7 +170,7 @@ numbered = record { each = λ j t e. go (rw taken-offers at (entry-offer e)) }
     go (later (later (later first))) = brought (λ b. 7) routes 3 recording 3 0 0 block_3 (lit≤ tt) (unfold answers in tt) (unfold computed in refl) near_3
     go (later (later (later (later e)))) = absurd (no_entry e refl)
 
-uneven_numbered : Numbered 12 3 bounds routes recording (turns 12 uneven_offers)
+pub uneven_numbered : Numbered 12 3 bounds routes recording (turns 12 uneven_offers)
 uneven_numbered = record { each = λ j t e. go (rw uneven_taken at (entry-offer e)) }
   where
     go : {j : ℕ} {o : Offer} → Entry uneven_brought j o → Brought 12 3 bounds routes recording o.number o.left o.right o.brought
@@ -186,7 +180,7 @@ uneven_numbered = record { each = λ j t e. go (rw uneven_taken at (entry-offer 
     go (later (later (later first))) = brought bounds routes 3 recording 3 0 0 coarse_3 (lit≤ tt) (unfold answers in tt) (unfold computed in refl) (unfold bounds in coarse_near_3)
     go (later (later (later (later e)))) = absurd (no_entry e refl)
 
-knock-numbered : Numbered 12 1 (λ b. 7) directly knock (turns 12 knock_offers)
+pub knock-numbered : Numbered 12 1 (λ b. 7) directly knock (turns 12 knock_offers)
 knock-numbered = record { each = λ j t e. go (rw knock-taken at (entry-offer e)) }
   where
     go : {j : ℕ} {o : Offer} → Entry knock_brought j o → Brought 12 1 (λ b. 7) directly knock o.number o.left o.right o.brought
@@ -239,10 +233,6 @@ pub knock-back : (i : ℕ) → i < 6 → (t : Turn) × Entry (taken (turns 12 kn
 unfolding directly
 knock-back i p = (whole-returned 12 twelve 1 (λ b. 7) directly knock knock_recorded knock_offers knock-numbered).same knock_all_taken i p (lit≤ tt) (lit≤ tt) refl refl
 
--- ---- the same offers to the steps in place, on a state that held nines
-pub nines : List ℤ
-nines = replicate entries (pos 9)
-
 pub made : fresh_code 12 nines ≡ 0
 unfolding answers fresh_causes fresh_code nines
 made = refl
@@ -252,14 +242,6 @@ on_a_state = calls_there_and_back 12 nines made offers 3 (λ b. 7) routes record
 
 pub whole_on_a_state : WholeReturned 12 3 (λ b. 7) routes recording (calls (fresh_state 12 nines) offers)
 whole_on_a_state = calls-whole 12 nines made offers 3 (λ b. 7) routes recording recorded (rw (fresh-calls 12 nines made offers) numbered)
-
--- ---- what it says of some of the taken steps
--- the taken step j of a list, at which o was offered, and what is claimed of its output
-pub record TakenStep (offers : List Offer) (j : ℕ) (o : Offer) (P : List ℤ → Type 0) : Type 0 where
-  pub turn : Turn
-  pub entry : Entry (taken (turns 12 offers)) j turn
-  pub offered : turn.offer ≡ o
-  pub claim : P turn.output
 
 taken_step : (offers brought : List Offer) → offers_of (taken (turns 12 offers)) ≡ brought → (j : ℕ) (o : Offer) (P : List ℤ → Type 0) → Entry brought j o →
     ((t : Turn) → Entry (taken (turns 12 offers)) j t → P t.output) → TakenStep offers j o P
@@ -324,10 +306,6 @@ pub last-counted : (step at_the_last 4294967295 1 0 block_0 room).stream.expecte
 unfolding at_the_last
 last-counted = (demand_2.stepped at_the_last 4294967295 1 0 block_0 room last_taken).counted
 
--- a forged shape of 2 takes no block
-pub forged : Stream
-forged = record { n = 12; expected = 4294967295; shape = 2; tail = replicate storage (pos 0) }
-
 forged_tail : SoundTail forged
 unfolding forged tail_limit
 forged_tail = record { each = λ n p. rw (get_or-replicate storage n (pos 0) (pos 0) (omega arith)) (omega arith) }
@@ -336,17 +314,9 @@ pub forged_shape : (l r : ℕ) (x out : List ℤ) → step_code forged 429496729
 unfolding forged
 forged_shape l r x out = (demand_1.stepped forged 4294967295 l r x out).eight_forged twelve forged_tail refl (lit< tt)
 
--- a state of zeros whose expected number is -1 takes no block
-pub below_zero : List ℤ
-below_zero = pos 12 ∷ minus 1 ∷ pos 0 ∷ replicate storage (pos 0)
-
 below_zero-tail : SoundTail (stream_in below_zero)
 unfolding stream_in entry_number below_zero tail_limit
 below_zero-tail = record { each = λ n p. rw (get_or-replicate storage n (pos 0) (pos 0) (omega arith)) (omega arith) }
-
--- and one whose shape is -1 or 2 takes none either
-pub misshapen : ℤ → List ℤ
-misshapen z = pos 12 ∷ pos 3 ∷ z ∷ replicate storage (pos 0)
 
 misshapen-tail : (z : ℤ) → SoundTail (stream_in (misshapen z))
 unfolding stream_in entry_number misshapen tail_limit

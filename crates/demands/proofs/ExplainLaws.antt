@@ -24,11 +24,12 @@ use Rattle.orders.specs.declared.Order.{Order}
 use Rattle.orders.specs.Orders.{part}
 use Rattle.orders.specs.OrderLaws.{part_long, part_small}
 use Rattle.recording_calls.specs.Recordings.{played_code, played_out}
-use Rattle.share_calls.specs.declared.Share.{Share}
+use Rattle.share_calls.specs.Answers.{Share}
 use Rattle.share_calls.specs.ShareCalls.{answered_with, share_answer}
 use Rattle.share_calls.specs.ShareCallLaws.{Sizes, sizes}
 use Rattle.share_calls.specs.RecordingShares.{share_at, numbered_from, place_code, both_ranged, recording_share}
 use Rattle.share_calls.specs.RecordingShareLaws.{Placed, places, both_ranges}
+use Rattle.reconstruction.specs.ReturnLaws.{none_equal}
 use Rattle.demands.specs.StepLaws.{taken_stream, taken_buffer}
 use Rattle.demands.proofs.ShareLaws.{share_answers, taken-tests, taken_is}
 use Rattle.demands.specs.OrderAnswerLaws as R
@@ -42,7 +43,7 @@ none_of (pos n) e = ap pos e
 none_of (negsuc n) e = absurd (omega (arith, e))
 
 same_of : (a b : ℤ) → nat_abs (b -ℤ a) ≡ 0 → a ≡ b
-same_of a b e = let z = none_of (b -ℤ a) e in simp ints (omega (arith, simp ints at z))
+same_of a b e = sym (none_equal b a (omega (arith, e)))
 
 factor : (a b : ℕ) → a * b ≡ 0 → b ≢ 0 → a ≡ 0
 factor zero b e n = refl

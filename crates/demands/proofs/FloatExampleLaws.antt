@@ -1,24 +1,17 @@
 -- The theorems of floats applied to blocks at N = 12, so that nobody has to believe that their hypotheses can be met, and floats computed from the definitions.
-use Rattle.std.specs.Prelude.{◌≡◌, refl, true, false, List, [], ◌∷◌, replicate, ℤ, pos, negsuc, Float}
+use Rattle.std.specs.Prelude.{◌≡◌, refl, true, false, [], ◌∷◌, pos, negsuc}
 use Rattle.std.proofs.Common.{ap, ◌∙◌, arith, lit<}
 use Rattle.std.specs.Float.{nan, fin}
 use Rattle.std.specs.Float.Ieee.{round, units, odd, size, span, climb}
 use Rattle.floats.specs.Floats.{negative, sixty_fourth, plus_zero, larger, smaller, picked, highest_of, lowest_of}
-use Rattle.float_calls.specs.declared.Ends.{Ends}
+use Rattle.float_calls.specs.Answers.{Ends}
 use Rattle.float_calls.specs.FloatCalls.{block_causes, block_code, floats_code, floats_out, ends_causes, ends_code, ends_of, pair_code, pair_out}
 use Rattle.demands.specs.FloatAnswerLaws.{pair_answers}
 use Rattle.demands.specs.FloatValues.{Exactly, float_at, FloatsOn, EndsOn}
 use Rattle.demands.proofs.FloatValueLaws.{floats_on, ends_on}
 use Rattle.demands.specs.Example.{minus}
 use Rattle.demands.proofs.ExampleLaws.{answers, twelve}
-
--- a block whose highest stands last and whose lowest stands first, each at the end of the range, with 0 and 1 between them
-unfoldable pub steep : List ℤ
-steep = minus 536870912 ∷ pos 0 ∷ pos 1 ∷ minus 1 ∷ pos 64 ∷ pos 536870912 ∷ []
-
--- rubbish that a buffer held
-unfoldable pub rubbish : List Float
-rubbish = replicate 6 nan
+use Rattle.demands.specs.FloatExamples.{steep, rubbish, beyond}
 
 -- ---- it is taken
 pub steep-taken : floats_code 12 steep rubbish ≡ 0
@@ -58,16 +51,12 @@ pub highest_there : float_at (floats_out 12 steep rubbish) steep-named.highest.p
 highest_there = steep-named.highest.same rubbish steep-taken
 
 -- into room for two
-pair_taken : pair_code 12 steep (nan ∷ nan ∷ []) ≡ 0
+pub pair_taken : pair_code 12 steep (nan ∷ nan ∷ []) ≡ 0
 unfolding answers block_causes block_code steep
 pair_taken = refl
 
 pub into_two : pair_out 12 steep (nan ∷ nan ∷ []) ≡ sixty_fourth (pos 536870912) ∷ sixty_fourth (minus 536870912) ∷ []
 into_two = let p = pair_answers 12 steep (nan ∷ nan ∷ []) in (p.both pair_taken).1 ∙ ap (λ (r : Ends). r.pair.highest ∷ r.pair.lowest ∷ []) steep_ends
-
--- ---- refused: one beyond the range, at the end; 2 is answered before 3
-unfoldable pub beyond : List ℤ
-beyond = pos 0 ∷ pos 0 ∷ pos 0 ∷ pos 0 ∷ pos 0 ∷ pos 536870913 ∷ []
 
 pub beyond_ends : ends_of 12 beyond ≡ record { code = 3; pair = record { highest = plus_zero; lowest = plus_zero } }
 unfolding answers ends_causes ends_code ends_of beyond

@@ -1,5 +1,5 @@
 -- Laws of the numbers of the calls on step tables and levels: each answers as document 02, P8, says. They are fields of `demand_1`.
-use Rattle.std.specs.Prelude.{◌≡◌, refl, ◌≢◌, Bool, true, false, cond, List, [], ◌∷◌, ℕ, zero, suc, ◌/◌, ◌^◌, ◌<◌, eqb, length, ℤ, pos, negsuc, ◌<ℤ◌}
+use Rattle.std.specs.Prelude.{◌≡◌, refl, ◌≢◌, Bool, true, false, cond, List, [], ◌∷◌, ℕ, zero, suc, ◌/◌, ◌^◌, ◌<◌, length, ℤ, pos, negsuc, ◌<ℤ◌}
 use Rattle.std.proofs.Math.Path.{sym}
 use Rattle.std.proofs.Common.{ap, ◌∙◌, arith, ne_eqb}
 use Rattle.std.proofs.Math.Decide.{ℕ_discrete}
@@ -12,17 +12,16 @@ use Rattle.stream.specs.declared.Stream.{Stream}
 use Rattle.stream.specs.Steps.{next, hop}
 use Rattle.analysis.specs.declared.Route.{Route}
 use Rattle.analysis.specs.declared.Route.TheVariants.{Direct, Short, Double}
-use Rattle.checks.specs.Causes.{Cause, ◌unless◌, First}
 use Rattle.checks.specs.Causes.First.{none, stop, pass}
 use Rattle.checks.specs.CauseLaws.{first_is, is-first, same, differs, beside}
 use Rattle.stream_calls.specs.Streams as S
 use Rattle.stream_calls.specs.Streams.{sound, fits}
-use Rattle.stream_calls.specs.declared.Stepped.{Stepped}
-use Rattle.state_calls.specs.States as F
-use Rattle.state_calls.specs.StateLaws.{same_code, same_stream, same_long}
+use Rattle.stream_calls.specs.Answers.{Stepped}
+use Rattle.stream_calls.specs.States as F
+use Rattle.stream_calls.specs.StateLaws.{same_code, same_stream, same_long}
 use Rattle.level_calls.specs.LevelCalls as L
 use Rattle.level_calls.specs.LevelCalls.{back_by, levels_by, quantise_causes, quantise_code, quantise_out, dequantise_causes, dequantise_code, dequantise_out, told_causes, distance, half, told, tell_code, tell_out, tell_number, tell_number_out, brought_code, step_levels}
-use Rattle.level_calls.specs.declared.Told.{Told}
+use Rattle.level_calls.specs.Answers.{Told}
 use Rattle.level_calls.specs.LevelCallLaws.{told-refused, told_taken, tell-refused, tell_long, tell-taken}
 use Rattle.steps.specs.Table.{digits, verdict}
 use Rattle.text.specs.Refusal.{refusal}
@@ -31,8 +30,8 @@ use Rattle.table_report.specs.ReportLaws.{of_some, no_length, turned_away, taken
 use Rattle.demands.specs.StepLaws.{code_other, sound_seven, last_stream}
 use Rattle.demands.specs.LevelStepLaws.{levels-code, levels-step, brought_yes, levels_brought}
 use Rattle.demands.proofs.MovedLaws.{dequantised_facts, dequantised_is, always_taken}
-use Rattle.demands.specs.CauseTestLaws.{ranges, ranges_not, sounds, sounds_not_n, sounds_not_tail, fits-true, fits_not, fits-other, fits_forged, negative, no_length_0, shape-negative, shape-large}
-use Rattle.demands.specs.Answers.{Tabled, Offered, Ruled, SoundTail, Fitting, QuantiseAnswers, DequantiseAnswers, ToldAnswers, RouteNumber, TellAnswers, Typed, ReportAnswers, StepLevelsAnswers, StateStepLevelsAnswers}
+use Rattle.demands.specs.CauseTestLaws.{ranges, ranges_not, negative, no_length_0, shape-negative, shape-large, AdmittingCauses, admitting_causes, admitted}
+use Rattle.demands.specs.Answers.{Tabled, Offered, Ruled, SoundTail, QuantiseAnswers, DequantiseAnswers, ToldAnswers, RouteNumber, TellAnswers, Typed, ReportAnswers, StepLevelsAnswers, StateStepLevelsAnswers}
 use Rattle.demands.specs.Answers.RouteNumber.{direct, short, double}
 
 pub quantise-answers : (N : ℕ) (text : List ℕ) (x levels : List ℤ) → QuantiseAnswers N text x levels
@@ -147,18 +146,19 @@ pub step_levels-answers : (s : Stream) (number l r : ℕ) (text : List ℕ) (lev
 unfolding L.step_causes L.step_code step_levels L.step_out
 step_levels-answers s number l r text levels out =
     let cs = L.step_causes s number l r text levels out in
+    let a : AdmittingCauses s number l r (L.step_code s number l r text levels out) = admitting_causes s number l r _ in
     record {
-      four_n = λ n. first_is cs (stop (sounds_not_n s n));
-      four_tail = λ n. first_is cs (stop (sounds_not_tail s n));
-      seven = λ t h n. first_is cs (pass (sounds s t h) (differs n));
-      seven_none = λ t h p q. first_is cs (pass (sounds s t h) (differs (λ (e : number ≡ s.expected). omega (arith, e, p, q))));
-      eight = λ t h e n. first_is cs (pass (sounds s t h) (same e (stop (fits_not s l r n))));
-      eight_left = λ t h e n. first_is cs (pass (sounds s t h) (same e (stop (fits-other s l r n))));
-      eight_forged = λ t h e p. first_is cs (pass (sounds s t h) (same e (stop (fits_forged s l r p))));
-      table_own = λ f n. first_is cs (passing f (differs n));
-      two_in = λ f z n. first_is cs (passing f (same z (differs n)));
-      two_out = λ f z n. first_is cs (passing f (same z (beside (differs n))));
-      taken = λ f z p q. first_is cs (passing f (same z (same p (same q none))));
+      four_n = a.four_n;
+      four_tail = a.four_tail;
+      seven = a.seven;
+      seven_none = a.seven_none;
+      eight = a.eight;
+      eight_left = a.eight_left;
+      eight_forged = a.eight_forged;
+      table_own = λ f n. first_is cs (admitted s number l r f (differs n));
+      two_in = λ f z n. first_is cs (admitted s number l r f (same z (differs n)));
+      two_out = λ f z n. first_is cs (admitted s number l r f (same z (beside (differs n))));
+      taken = λ f z p q. first_is cs (admitted s number l r f (same z (same p (same q none))));
       code = refl;
       same = λ room z. (levels-step s number l r text levels out (brought room z)).0 ∙ ap (λ (c : List ℤ). S.step s number l r c out) (sym (dequantised_is s.n text levels room z));
       same_out = λ room z. (levels-step s number l r text levels out (brought room z)).1 ∙ ap (λ (c : List ℤ). S.step_out s number l r c out) (sym (dequantised_is s.n text levels room z));
@@ -166,11 +166,6 @@ step_levels-answers s number l r text levels out =
       kept = λ k. code_other (L.step_code s number l r text levels out) (hop s l r (back_by s.n text levels)) out k;
     }
   where
-    -- the causes of a fitting block are those behind the first three
-    passing : {k : ℕ} {cs : List Cause} → Fitting s number l r → First cs k →
-        First (4 unless sound s ∷ 7 unless eqb number s.expected ∷ 8 unless fits l r s.shape ∷ cs) k
-    passing f g = pass (sounds s f.length_is f.tail_is) (same f.number_is (pass (fits-true s l r f.shapes f.left_is) g))
-
     brought : (room : List ℤ) → dequantise_code s.n text levels room ≡ 0 → brought_code s.n text levels ≡ 0
     brought room z = let f = dequantised_facts s.n text levels room z in brought_yes s.n text levels f.table_is f.long
 

@@ -1,7 +1,7 @@
 -- Blocks that are stored as levels, at N = 12: two step tables, a recording of one hop whose blocks are stored by them, with a short joint between them, and lists that bring them, by levels and by
 -- the coefficients that come back, refused steps among it; and the same recording, with long joints, for the calls over whole recordings. The theorems applied to them, and the told distances, that of the double route at N = 36.
 -- All is computed from the definitions.
-use Rattle.std.specs.Prelude.{◌≡◌, List, [], ◌∷◌, ◌++◌, ℕ, zero, suc, ◌+◌, ◌/◌, ◌%◌, ◌≤◌, ◌<◌, length, ℤ, pos, nat_abs, ◌-ℤ◌}
+use Rattle.std.specs.Prelude.{◌≡◌, List, [], ◌∷◌, ◌++◌, ℕ, zero, suc, ◌+◌, ◌/◌, ◌%◌, ◌≤◌, ◌<◌, length, ℤ, nat_abs, ◌-ℤ◌}
 use Rattle.std.proofs.Math.Path.{refl}
 use Rattle.std.proofs.Common.{arith, lit≤}
 use Rattle.arithmetic.specs.Lists.{at}
@@ -14,7 +14,7 @@ use Rattle.recording.specs.Recordings.{block}
 use Rattle.text.specs.Bytes.{ascii}
 use Rattle.text.specs.Number.{is_digit, leading_zero, is_natural, natural_from, natural, is_signed, is_number, value}
 use Rattle.text.specs.Lines.{in_front, split, ended, unended, lines, remainder, fields}
-use Rattle.state_calls.specs.States.{fresh_state}
+use Rattle.stream_calls.specs.States.{fresh_state}
 use Rattle.recording_calls.specs.Recordings.{played_code, played_out, recorded_code, recorded_out}
 use Rattle.block_calls.specs.Analysis.{analyse_code, analyse_out}
 use Rattle.steps.specs.Table.{bounded, numbers_of, row_of, malformed, joints, by_lines, verdict, step_in, step_at, larger, coarsest_in, coarsest}
@@ -25,67 +25,15 @@ use Rattle.demands.specs.Steps.Entry.{first, later}
 use Rattle.demands.proofs.RunLaws.{no_entry, entry-offer}
 use Rattle.demands.specs.Chains.{calls, held}
 use Rattle.demands.proofs.ChainLaws.{fresh-calls}
-use Rattle.demands.specs.Example.{minus, knock, room, five, loud, offer}
-use Rattle.demands.proofs.ExampleLaws.{answers, knock_recorded, twelve, nines, made}
-use Rattle.demands.specs.Stored.{Through, StoredBlock, Stored, coarser, farther, ToldKept, StoredReturned, StoredBack}
+use Rattle.demands.specs.Example.{knock, room, offer}
+use Rattle.demands.proofs.ExampleLaws.{answers, knock_recorded, twelve, made}
+use Rattle.demands.specs.ListExamples.{nines}
+use Rattle.demands.specs.Stored.{Through, StoredBlock, Stored, StoredBlocks, StoredOnce, coarser, farther, ToldKept, StoredReturned, StoredBack}
 use Rattle.demands.proofs.StoredLaws.{told-kept, told_kept_calls, stored_back, stored_once}
-use Rattle.demands.specs.StoredLists.{Load, LoadOffer, LoadTurn, step_by_load, output_by, load_answered, load_run, load_turns, load_final, taken_loads, load_calls, load_held, brought_by, bringing, as_turn, as_turns, Brings, StoredLoads}
+use Rattle.demands.specs.StoredLists.{LoadOffer, LoadTurn, step_by_load, output_by, load_answered, load_run, load_turns, load_final, taken_loads, load_calls, load_held, brought_by, bringing, as_turn, as_turns, Brings, StoredLoads}
 use Rattle.demands.specs.StoredLists.Load.{spectrum, levels}
 use Rattle.demands.proofs.StoredListLaws.{loads_kept, load_calls_are, load_calls_kept}
-
--- ---- the tables and the blocks
--- block 0 is stored by two lines, every later one by one
-unfoldable pub tables : ℕ → List ℕ
-tables zero = ascii "0,2,16\n3,5,100\n"
-tables (suc b) = ascii "0,5,7\n"
-
--- block 0 takes the direct route, every later one the short one
-unfoldable pub mixed : ℕ → Route
-mixed zero = Direct
-mixed (suc b) = Short
-
--- with the short joint: the levels of block 0, and what comes back from those of both
-unfoldable pub levels_0 : List ℤ
-levels_0 = minus 70318 ∷ minus 65510 ∷ minus 56259 ∷ minus 6913 ∷ minus 4352 ∷ minus 1486 ∷ []
-
-unfoldable pub back_0 : List ℤ
-back_0 = minus 1125088 ∷ minus 1048160 ∷ minus 900144 ∷ minus 691300 ∷ minus 435200 ∷ minus 148600 ∷ []
-
-unfoldable pub back_1 : List ℤ
-back_1 = pos 357623 ∷ minus 1048509 ∷ pos 1667967 ∷ minus 2173794 ∷ pos 2531487 ∷ minus 2716651 ∷ []
-
--- with long joints: the coefficients of both, and what comes back of them, one after the other
-unfoldable pub plain_0 : List ℤ
-plain_0 = minus 383693 ∷ minus 357261 ∷ minus 306812 ∷ minus 235988 ∷ minus 148949 ∷ minus 50964 ∷ []
-
-unfoldable pub plain_1 : List ℤ
-plain_1 = pos 383738 ∷ minus 1125064 ∷ pos 1789764 ∷ minus 2332627 ∷ pos 2716659 ∷ minus 2915535 ∷ []
-
-unfoldable pub long_0 : List ℤ
-long_0 = minus 383696 ∷ minus 357264 ∷ minus 306816 ∷ minus 236000 ∷ minus 148900 ∷ minus 51000 ∷ []
-
-unfoldable pub long_1 : List ℤ
-long_1 = pos 383740 ∷ minus 1125061 ∷ pos 1789767 ∷ minus 2332624 ∷ pos 2716658 ∷ minus 2915535 ∷ []
-
-unfoldable pub long_both : List ℤ
-long_both = long_0 ++ long_1
-
--- ---- the lists
--- each block as coefficients, until it is taken
-unfoldable pub back_offers : List Offer
-back_offers = offer 0 0 1 five room ∷ offer 0 0 1 back_0 room ∷ offer 1 1 0 loud room ∷ offer 1 1 0 back_1 room ∷ offer 1 1 0 back_1 room ∷ []
-
-abbrev pub load_offer : (number left right : ℕ) → Load → LoadOffer
-load_offer number left right load = record { number = number; left = left; right = right; load = load; buffer = room }
-
--- too early; with a gap, an overlap and no line feed in the table; five levels; a shape that does not fit; block 0 by levels, and again; a coefficient that is too large; no table; and block 1 by
--- its coefficients
-unfoldable pub load_offers : List LoadOffer
-load_offers =
-    load_offer 1 1 0 (spectrum back_1) ∷ load_offer 0 0 1 (levels (ascii "0,2,16\n4,5,100\n") levels_0) ∷ load_offer 0 0 1 (levels (ascii "0,2,16\n2,5,100\n") five) ∷
-    load_offer 0 0 1 (levels (ascii "0,2,16\n3,5,100") levels_0) ∷ load_offer 0 0 1 (levels (tables 0) five) ∷ load_offer 0 1 1 (levels (tables 0) levels_0) ∷
-    load_offer 0 0 1 (levels (tables 0) levels_0) ∷ load_offer 0 0 1 (levels (tables 0) levels_0) ∷ load_offer 1 1 0 (spectrum loud) ∷ load_offer 1 1 0 (levels (ascii "") levels_0) ∷
-    load_offer 1 1 0 (spectrum back_1) ∷ []
+use Rattle.demands.specs.LevelExamples.{tables, mixed, levels_0, back_0, back_1, plain_0, plain_1, long_0, long_1, long_both, back_offers, load_offer, load_offers, load_codes}
 
 -- ---- the definitions that the tests below open
 unfoldable pub ruled : Unit {0}
@@ -100,12 +48,7 @@ stepped : Unit {0}
 unfolding stored step_causes step_code step_levels step_out step_by_load output_by load_answered load_run load_turns taken_loads
 stepped = tt
 
--- ---- what the calls return
-load_codes : List LoadTurn → List ℕ
-load_codes [] = []
-load_codes (t ∷ ts) = t.answer.code ∷ load_codes ts
-
-codes : load_codes (load_turns 12 load_offers) ≡ 7 ∷ 10 ∷ 11 ∷ 9 ∷ 2 ∷ 8 ∷ 0 ∷ 7 ∷ 3 ∷ 10 ∷ 0 ∷ []
+pub codes : load_codes (load_turns 12 load_offers) ≡ 7 ∷ 10 ∷ 11 ∷ 9 ∷ 2 ∷ 8 ∷ 0 ∷ 7 ∷ 3 ∷ 10 ∷ 0 ∷ []
 unfolding stepped load_codes
 codes = refl
 
@@ -146,7 +89,7 @@ block_0 = record { exists = lit≤ tt; offers = unfold stored in tt; through = t
 block_1 : StoredBlock 12 1 tables mixed knock 1 1 0 back_1
 block_1 = record { exists = lit≤ tt; offers = unfold stored in tt; through = through_1 }
 
-stored_backs : Stored 12 1 tables mixed knock (turns 12 back_offers)
+pub stored_backs : Stored 12 1 tables mixed knock (turns 12 back_offers)
 stored_backs = record { each = λ j t e. go (rw taken_backs at (entry-offer e)) }
   where
     go : {j : ℕ} {o : Offer} → Entry (offer 0 0 1 back_0 room ∷ offer 1 1 0 back_1 room ∷ []) j o → StoredBlock 12 1 tables mixed knock o.number o.left o.right o.brought
@@ -154,7 +97,7 @@ stored_backs = record { each = λ j t e. go (rw taken_backs at (entry-offer e)) 
     go (later first) = block_1
     go (later (later e)) = absurd (no_entry e refl)
 
-stored_loads : StoredLoads 12 1 tables mixed knock (load_turns 12 load_offers)
+pub stored_loads : StoredLoads 12 1 tables mixed knock (load_turns 12 load_offers)
 unfolding Brings
 stored_loads = record { each = λ j t e. go (rw taken_loads_are at (offered-entry e)) }
   where
@@ -187,7 +130,7 @@ unfolding mixed
 hop_within_4 t e n p = rw told_4 at (kept.hop 1 t e 0 (kept.returned.answered.numbers 1 t e) n p).near
 
 -- both blocks were taken, so every sample has returned
-both_taken : length (taken (as_turns (load_turns 12 load_offers))) ≡ 2
+pub both_taken : length (taken (as_turns (load_turns 12 load_offers))) ≡ 2
 unfolding stepped brought_by bringing as_turn as_turns
 both_taken = refl
 
@@ -196,7 +139,7 @@ pub every-sample : (i : ℕ) → i < 6 → (t : Turn) × Entry (taken (as_turns 
 every-sample i p = kept.whole both_taken i p
 
 -- ---- whole recordings, with long joints
-played : played_code 12 1 long_both room ≡ 0
+pub played : played_code 12 1 long_both room ≡ 0
 unfolding stored
 played = refl
 
@@ -224,9 +167,9 @@ unfolding stored
 parts = (refl, refl)
 
 -- analysed block by block, each by its own route, and by one call, directly
-pub blocks-kept : StoredBack 12 1 tables mixed knock (played_out ByBlock 12 1 long_both room)
+pub long_by_blocks : StoredBlocks 12 1 tables mixed ByBlock knock long_both
 unfolding mixed
-blocks-kept = stored_back 12 1 tables mixed ByBlock knock long_both room played knock_recorded (record { buffer = λ b. room; analysed = analysed; through = through })
+long_by_blocks = record { buffer = λ b. room; analysed = analysed; through = through }
   where
     analysed : (b : ℕ) → b ≤ 1 → analyse_code (mixed b) 12 0 0 (block 12 knock b) room ≡ 0
     analysed zero p = analysed_0.0
@@ -238,14 +181,18 @@ blocks-kept = stored_back 12 1 tables mixed ByBlock knock long_both room played 
     through (suc zero) p = rw analysed_1.1 (rw parts.1 at (long_through 1 p))
     through (suc (suc b)) p = absurd (omega (arith, p))
 
+pub blocks-kept : StoredBack 12 1 tables mixed knock (played_out ByBlock 12 1 long_both room)
+blocks-kept = stored_back 12 1 tables mixed ByBlock knock long_both room played knock_recorded long_by_blocks
+
 recorded : recorded_code Direct 12 1 knock (room ++ room) ≡ 0
 unfolding stored
 recorded = refl
 
+pub long_by_one_call : StoredOnce 12 1 tables Direct ByBlock knock long_both
+long_by_one_call = record { filled = ByBlock; buffer = room ++ room; analysed = recorded; through = λ b p. rw recorded_whole (long_through b p) }
+
 pub once_kept : StoredBack 12 1 tables (λ b. Direct) knock (played_out ByBlock 12 1 long_both room)
-once_kept =
-    stored_once 12 1 tables Direct ByBlock knock long_both room played knock_recorded.sample
-    (record { filled = ByBlock; buffer = room ++ room; analysed = recorded; through = λ b p. rw recorded_whole (long_through b p) })
+once_kept = stored_once 12 1 tables Direct ByBlock knock long_both room played knock_recorded.sample long_by_one_call
 
 -- directly it is (50 + 8) / 16
 pub told_3 : told (farther Direct Direct) 12 (coarser 12 (tables 0) (tables 1)) ≡ record { code = 0; distance = 3 }
@@ -267,7 +214,7 @@ route_2 = (refl, refl)
 
 pub route_3 : (N : ℕ) (text room : List ℕ) → (tell_number 3 N text room ≡ 1) × (tell_number_out 3 N text room ≡ room)
 unfolding tell_number tell_number_out
-route_3 N text room = (refl, refl)
+route_3 N text r = (refl, refl)
 
 -- at N = 12 it is refused with 1, whatever the table
 pub not_told_at_12 : (text : List ℕ) → told Double 12 text ≡ record { code = 1; distance = 0 }

@@ -19,6 +19,7 @@ pub mod ExplainLaws
 pub mod DefinitionLaws
 pub mod DemandLaws
 pub mod UnchangedLaws
+pub mod TurnLaws
 pub mod CoarseLaws
 pub mod FloatValueLaws
 pub mod CoarseTableLaws

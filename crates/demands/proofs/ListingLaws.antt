@@ -19,9 +19,8 @@ use Rattle.text.specs.Number.{value, decimal, printed}
 use Rattle.text.specs.NumberLaws.{and_right, printed_only}
 use Rattle.text.specs.Lines.{lines, fields, line}
 use Rattle.text.specs.LineLaws.{more-fields}
-use Rattle.listing.specs.declared.verdict.Verdict.{Verdict}
+use Rattle.listing.specs.Verdicts.{Verdict, verdict, hops_of, hop_of}
 use Rattle.listing.specs.Hops.{digits, is_sample, is_hop, samples}
-use Rattle.listing.specs.Verdicts.{verdict, hops_of, hop_of}
 use Rattle.listing.specs.VerdictLaws.{Taken, verdict-taken}
 use Rattle.listing.specs.HopLaws.{sample-number, hops-counted, hops-at}
 use Rattle.listing.specs.Print.{row}

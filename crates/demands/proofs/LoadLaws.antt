@@ -8,13 +8,13 @@ use Rattle.std.proofs.Math.Decide.{ℕ_discrete}
 use Rattle.stream.specs.declared.Stream.{Stream}
 use Rattle.checks.specs.Causes.{first_cause}
 use Rattle.checks.specs.Limits.{in_range}
-use Rattle.stream_calls.specs.declared.Stepped.{Stepped}
+use Rattle.stream_calls.specs.Answers.{Stepped}
 use Rattle.stream_calls.specs.Streams as S
 use Rattle.stream_calls.specs.StreamLaws.{sound-tabled}
 use Rattle.steps.specs.Table.{table_code}
 use Rattle.level_calls.specs.LevelCalls as L
 use Rattle.level_calls.specs.LevelCalls.{back_by, brought_causes, brought_code, step_levels}
-use Rattle.level_calls.specs.LevelCallLaws.{hop-some, refused-step, refused-out}
+use Rattle.level_calls.specs.LevelCallLaws.{hop_some, refused-step, refused-out}
 use Rattle.demands.specs.Steps.{Offer, Turn, Entry, answered, run, after, taken, Answered}
 use Rattle.demands.specs.Steps.Entry.{first, later}
 use Rattle.demands.proofs.RunLaws.{refused_stream, refused_buffer, taken_yes, taken_no}
@@ -87,7 +87,7 @@ module _ (s : Stream) (number l r : ℕ) (text : List ℕ) (x out : List ℤ) (n
       none = cond (eqb (length {A = ℤ} []) (s.n / 2)) (cond (eqb (length out) (s.n / 2)) (cond (in_range (s.n / 2) []) 0 3) 2) 2
 
       none_is : S.sound s ≡ true → none ≡ 2
-      none_is t = rw (ne_eqb (length {A = ℤ} []) (s.n / 2) (λ (e : length {A = ℤ} [] ≡ s.n / 2). omega (arith, e, hop-some s.n (sound-tabled s t))))
+      none_is t = rw (ne_eqb (length {A = ℤ} []) (s.n / 2) (λ (e : length {A = ℤ} [] ≡ s.n / 2). omega (arith, e, hop_some s.n (sound-tabled s t))))
 
       go : (a b c : Bool) → S.sound s ≡ a → Both (cond a (cond b (cond c rest 8) 7) 4) (cond a (cond b (cond c none 8) 7) 4)
       go true true true e =

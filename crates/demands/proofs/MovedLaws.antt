@@ -15,7 +15,7 @@ use Rattle.arithmetic.specs.Rounding.{rnd}
 use Rattle.arithmetic.specs.ListLaws.{get_d_table}
 use Rattle.levels.specs.LevelLaws.{levelled_long, levelled-near}
 use Rattle.level_calls.specs.LevelCalls.{levels_by, back_by, quantise_causes, quantise_code, quantise_out, dequantise_causes, dequantise_code, dequantise_out, half}
-use Rattle.level_calls.specs.LevelCallLaws.{hop-some, back_long, back_small}
+use Rattle.level_calls.specs.LevelCallLaws.{hop_some, back_long, back_small}
 use Rattle.demands.specs.Answers.{InRange}
 use Rattle.demands.specs.Demands.{RuledOn, LevelledOn, RestoredOn}
 
@@ -95,14 +95,14 @@ module _ (N : ℕ) (text : List ℕ) (x levels out : List ℤ) (z : quantise_cod
   unfolding back_by levels_by
   moved k p =
       let f = quantised_facts N text x levels z in
-      rw there (levelled-near (step_at (N / 2) text) (N / 2) x f.long f.small k p (step-least (N / 2) (hop-some N f.length_is) text f.table_is k p))
+      rw there (levelled-near (step_at (N / 2) text) (N / 2) x f.long f.small k p (step-least (N / 2) (hop_some N f.length_is) text f.table_is k p))
 
   -- so by no more than half the table's coarsest step
   pub moved-half : (k : ℕ) → k < N / 2 → nat_abs (at (dequantise_out N text (quantise_out N text x levels) out) k -ℤ at x k) ≤ half N text
   unfolding half
   moved-half k p =
       let f = quantised_facts N text x levels z in
-      omega (arith, moved k p, step-coarsest (N / 2) (hop-some N f.length_is) text f.table_is k p)
+      omega (arith, moved k p, step-coarsest (N / 2) (hop_some N f.length_is) text f.table_is k p)
 
 -- ---- the levels and what comes back, place by place
 pub levelled_on : (N : ℕ) (text : List ℕ) (x levels : List ℤ) → quantise_code N text x levels ≡ 0 → LevelledOn N text x levels
@@ -121,7 +121,7 @@ restored_on N text levels out z = record {
 
 pub ruled_on : (N : ℕ) (text : List ℕ) → T (tabled N) → table_code (N / 2) text ≡ 0 → (k : ℕ) → k < N / 2 → RuledOn (N / 2) text k
 ruled_on N text t z k p =
-    let some = hop-some N t in
+    let some = hop_some N t in
     let c = taken_covers (N / 2) some text z k p in
     record {
       covered = c;

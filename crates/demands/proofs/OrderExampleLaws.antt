@@ -1,6 +1,6 @@
 -- The orders at N = 12: four blocks by block and by frequency, what a synthesis and a page make of either, there and back, and a share named by its block's number in the recording. All is computed
 -- from the definitions, or follows from `either_order`, `explained_in` and `demand_1`.
-use Rattle.std.specs.Prelude.{◌≡◌, refl, true, List, [], ◌∷◌, ◌++◌, ℕ, length, take, replicate, ℤ, pos}
+use Rattle.std.specs.Prelude.{◌≡◌, refl, true, List, [], ◌∷◌, ◌++◌, ℕ, length, take, ℤ}
 use Rattle.std.proofs.Common.{◌∙◌, arith, lit≤}
 use Rattle.arithmetic.specs.Lists.{at}
 use Rattle.analysis.specs.declared.Route.TheVariants.{Direct}
@@ -18,16 +18,11 @@ use Rattle.demands.specs.Demands.{Alike}
 use Rattle.demands.specs.Example.{block_0, block_1, block_2, block_3, knock, room, whole, hops_room}
 use Rattle.demands.proofs.ExampleLaws.{answers, twelve}
 use Rattle.demands.proofs.RecordingExampleLaws.{knock-analysed}
+use Rattle.demands.specs.OrderExamples.{wide, bands, muted, muted_bands}
 
-abbrev wide : List ℤ
-wide = room ++ room ++ room ++ room
-
-taken : reorder_code 12 3 whole wide ≡ 0
+pub taken : reorder_code 12 3 whole wide ≡ 0
 unfolding answers reorder_causes reorder_code
 taken = refl
-
-abbrev bands : List ℤ
-bands = reorder_out ByFrequency 12 3 whole wide
 
 -- coefficient 0 of all blocks stands first, and coefficient 5 last
 pub first_band : take 4 bands ≡ at block_0 0 ∷ at block_1 0 ∷ at block_2 0 ∷ at block_3 0 ∷ []
@@ -62,9 +57,6 @@ shares : Unit {0}
 unfolding answers share_of earlier later share_in best named largest_share share_at numbered_from place_causes place_code both_ranged recording_share_code recording_share
 shares = tt
 
-unfoldable pub muted : List ℤ
-muted = block_0 ++ block_1 ++ block_2 ++ replicate 6 (pos 0)
-
 pub block_3-named : recording_share ByBlock 12 3 whole muted 2 1 ≡ record { code = 0; any = true; block = 3; coefficient = 5 }
 unfolding shares muted
 block_3-named = refl
@@ -74,14 +66,11 @@ unfolding shares muted
 none_named = refl
 
 -- and by frequency, in the call's answer and in its room
-muted-taken : reorder_code 12 3 muted wide ≡ 0
+pub muted-taken : reorder_code 12 3 muted wide ≡ 0
 unfolding answers muted reorder_causes reorder_code
 muted-taken = refl
 
-abbrev muted_bands : List ℤ
-muted_bands = reorder_out ByFrequency 12 3 muted wide
-
-muted_alike : Alike 12 3 ByFrequency ByBlock muted_bands muted
+pub muted_alike : Alike 12 3 ByFrequency ByBlock muted_bands muted
 unfolding other
 muted_alike = either_order.reordered ByFrequency 12 3 muted wide muted-taken
 

@@ -1,6 +1,6 @@
 -- The theorems `back_block_by_block`, `back_by_one_call` and `back_one` applied to the recordings of Example; short halves; a recording at N = 216; one at N = 72, by the double route; the sign rule; and pages, printed and read back. All
 -- is computed from the definitions.
-use Rattle.std.specs.Prelude.{◌≡◌, true, cond, List, [], ◌∷◌, ◌++◌, ℕ, zero, suc, ◌*◌, ◌%◌, ◌≤◌, ◌<◌, T, eqb, leb, length, get_or, take, replicate, ℤ, pos, nat_abs, ◌-ℤ◌}
+use Rattle.std.specs.Prelude.{◌≡◌, true, List, [], ◌∷◌, ◌++◌, ℕ, zero, suc, ◌≤◌, ◌<◌, T, eqb, leb, length, get_or, take, replicate, ℤ, pos, nat_abs, ◌-ℤ◌}
 use Rattle.std.proofs.Math.Path.{refl}
 use Rattle.std.proofs.Math.Nat.{div-eq_of_lt}
 use Rattle.std.proofs.Common.{arith, eqb→eq, leb→le, lit<, lit≤}
@@ -8,12 +8,11 @@ use Rattle.arithmetic.specs.Lists.{at, table, all}
 use Rattle.arithmetic.specs.TestLaws.{all-at}
 use Rattle.cosine.specs.Kernels.{tabled, rising, falling}
 use Rattle.transform.specs.Analysis.{y}
-use Rattle.analysis.specs.declared.Route.{Route}
 use Rattle.analysis.specs.declared.Route.TheVariants.{Direct, Short, Double}
 use Rattle.analysis.specs.Analysis.{offered, units_of}
 use Rattle.orders.specs.declared.Order.{Order}
 use Rattle.orders.specs.declared.Order.TheVariants.{ByBlock, ByFrequency}
-use Rattle.orders.specs.Orders.{place, laid}
+use Rattle.orders.specs.Orders.{place}
 use Rattle.recording.specs.Recordings.{block}
 use Rattle.checks.specs.Limits.{counted}
 use Rattle.block_calls.specs.Analysis.{analyse_code, analyse_out}
@@ -34,12 +33,13 @@ use Rattle.demands.proofs.UnchangedLaws.{unchanged_taken, unchanged_near, unchan
 use Rattle.demands.specs.Answers.{Shapes}
 use Rattle.demands.specs.Demands.{X, PlayedOn, Alike}
 use Rattle.demands.specs.Turned.{opposite}
-use Rattle.demands.specs.TurnLaws.{sign_rule}
+use Rattle.demands.proofs.TurnLaws.{sign_rule}
 use Rattle.demands.specs.Example.{minus, recording, routes, knock, room, whole, hops_room, knock_whole}
 use Rattle.demands.proofs.ExampleLaws.{computed, answers, twelve, is_sample, samples_of, recorded, knock_recorded}
+use Rattle.demands.specs.RecordingExamples.{ramp, slope, double_first, double_and_short, twelve_samples, paper, counted_up, sheet}
 
 -- ---- the calls over whole recordings: four blocks, analysed one by one, block 2 by the short route
-played : played_code 12 3 whole hops_room ≡ 0
+pub played : played_code 12 3 whole hops_room ≡ 0
 unfolding answers
 played = refl
 
@@ -58,7 +58,7 @@ analysed : T (all 4 (λ b. eqb (analyse_code (routes b) 12 0 0 (block 12 recordi
 unfolding answers
 analysed = tt
 
-by_blocks : BlockByBlock 12 3 (λ b. 7) routes ByBlock recording whole
+pub by_blocks : BlockByBlock 12 3 (λ b. 7) routes ByBlock recording whole
 by_blocks = record {
   buffer = λ b. room;
   taken = λ b p. eqb→eq (analyse_code (routes b) 12 0 0 (block 12 recording b) room) 0
@@ -95,10 +95,6 @@ pub direct_at_216 : analyse_code Direct 216 1 0 (table 216 (λ i. pos 0)) (table
 unfolding answers
 direct_at_216 = refl
 
--- a recording of one hop there, whose coefficients are played as they are, comes back as it was, whatever the buffer held
-pub ramp : List ℤ
-ramp = table 108 (λ i. pos (300 * i))
-
 ramp-samples : T (all (length ramp) (λ i. is_sample (at ramp i)))
 unfolding computed is_sample ramp
 ramp-samples = tt
@@ -112,10 +108,6 @@ ramp_played = unchanged_taken Direct ByFrequency 216 1 ramp (replicate 216 (pos 
 
 pub ramp-back : (out : List ℤ) → length out ≡ 108 → played_out ByFrequency 216 1 (recorded_out Direct ByFrequency 216 1 ramp (replicate 216 (pos 9))) out ≡ ramp
 ramp-back = unchanged_back ByFrequency 216 1 ramp (replicate 216 (pos 9)) (samples_of ramp ramp-samples) ramp-analysed
-
--- ---- a recording of one hop at N = 72, by the double route (P12): its coefficients are taken as they are, and each sample comes back up to 2, which is (32 + 8) / 16
-pub slope : List ℤ
-slope = table 36 (λ i. minus (900 * i))
 
 slope-samples : T (all (length slope) (λ i. is_sample (at slope i)))
 unfolding computed is_sample slope
@@ -139,7 +131,7 @@ pub slope_sharper : (out : List ℤ) → length out ≡ 36 → (i : ℕ) → i <
 unfolding proved_change proved_units
 slope_sharper out l i p = (unchanged_sharper Double ByBlock 72 1 slope (replicate 72 (pos 9)) (samples_of slope slope-samples) slope-analysed out l).near i p
 
-slope_recorded : Recording 72 1 slope
+pub slope_recorded : Recording 72 1 slope
 slope_recorded = record { hops = lit≤ tt; long = unfold computed slope in refl; sample = samples_of slope slope-samples }
 
 seventy_two : T (tabled 72)
@@ -147,26 +139,17 @@ unfolding computed
 seventy_two = tt
 
 -- its last block, with a short joint on its left: each coefficient lies within 32 units of the definition's
-last_taken : analyse_code Double 72 1 0 (block 72 slope 1) (replicate 36 (pos 9)) ≡ 0
+pub last_taken : analyse_code Double 72 1 0 (block 72 slope 1) (replicate 36 (pos 9)) ≡ 0
 unfolding answers slope
 last_taken = refl
 
 pub slope-near : (k : ℕ) → k < 36 → nat_abs (at (analyse_out Double 72 1 0 (block 72 slope 1) (replicate 36 (pos 9))) k -ℤ X 72 1 0 (block 72 slope 1) k) ≤ 32
 slope-near k p = (demand_2.coefficient 72 1 0 (block 72 slope 1) (replicate 36 (pos 9)) k p).double_near last_taken (block-sample 72 seventy_two 1 slope slope_recorded 1)
 
--- analysed block by block, block 0 by the double route and block 1 by the short one, each sample comes back up to 2, and in fact up to 1
-unfoldable pub double_first : ℕ → Route
-double_first zero = Double
-double_first (suc b) = Short
-
 double_first-taken : (b : ℕ) → b ≤ 1 → analyse_code (double_first b) 72 0 0 (block 72 slope b) (replicate 36 (pos 9)) ≡ 0
 double_first-taken zero p = unfold answers slope double_first in refl
 double_first-taken (suc zero) p = unfold answers slope double_first in refl
 double_first-taken (suc (suc b)) p = absurd (omega (arith, p))
-
--- their coefficients, one block after the other
-abbrev pub double_and_short : List ℤ
-double_and_short = laid ByBlock 36 2 (λ b. analyse_out (double_first b) 72 0 0 (block 72 slope b) (replicate 36 (pos 9)))
 
 one-hop : counted 1 ≡ true
 unfolding counted
@@ -202,7 +185,7 @@ unfolding answers
 double_at_12 H x out = refl
 
 -- ---- with its sign turned the ramp has the turned coefficients
-turned_taken : recorded_code Direct 216 1 (opposite ramp) (replicate 216 (pos 9)) ≡ 0
+pub turned_taken : recorded_code Direct 216 1 (opposite ramp) (replicate 216 (pos 9)) ≡ 0
 unfolding answers ramp opposite
 turned_taken = refl
 
@@ -210,22 +193,18 @@ pub ramp-turned : recorded_out Direct ByFrequency 216 1 (opposite ramp) (replica
 ramp-turned = sign_rule.recorded Direct ByFrequency 216 1 ramp (replicate 216 (pos 9)) (replicate 216 (pos 9)) ramp-analysed turned_taken
 
 -- the slope too, by the double route
-slope_turned_taken : recorded_code Double 72 1 (opposite slope) (replicate 72 (pos 9)) ≡ 0
+pub slope_turned_taken : recorded_code Double 72 1 (opposite slope) (replicate 72 (pos 9)) ≡ 0
 unfolding answers slope opposite
 slope_turned_taken = refl
 
 pub slope-turned : recorded_out Double ByBlock 72 1 (opposite slope) (replicate 72 (pos 9)) ≡ opposite (recorded_out Double ByBlock 72 1 slope (replicate 72 (pos 9)))
 slope-turned = sign_rule.recorded Double ByBlock 72 1 slope (replicate 72 (pos 9)) (replicate 72 (pos 9)) slope-analysed slope_turned_taken
 
--- and so has a block by the short route: its own coefficients, and those of the turned block
-pub twelve_samples : List ℤ
-twelve_samples = pos 7 ∷ minus 8 ∷ pos 32767 ∷ minus 32767 ∷ pos 1 ∷ pos 0 ∷ pos 5 ∷ pos 5 ∷ minus 5 ∷ pos 5 ∷ minus 900 ∷ pos 5 ∷ []
-
-short-taken : analyse_code Short 12 1 1 twelve_samples room ≡ 0
+pub short-taken : analyse_code Short 12 1 1 twelve_samples room ≡ 0
 unfolding answers twelve_samples
 short-taken = refl
 
-short_turned_taken : analyse_code Short 12 1 1 (opposite twelve_samples) room ≡ 0
+pub short_turned_taken : analyse_code Short 12 1 1 (opposite twelve_samples) room ≡ 0
 unfolding answers twelve_samples opposite
 short_turned_taken = refl
 
@@ -233,7 +212,7 @@ pub short-turned : analyse_out Short 12 1 1 (opposite twelve_samples) room ≡ o
 short-turned = sign_rule.analysed Short 12 1 1 twelve_samples room room short-taken short_turned_taken
 
 -- ---- a single hop at N = 12, analysed by one call, which filled by frequency; what is synthesised lies by block
-knock_played : played_code 12 1 knock_whole room ≡ 0
+pub knock_played : played_code 12 1 knock_whole room ≡ 0
 unfolding answers
 knock_played = refl
 
@@ -248,7 +227,7 @@ knock-changes : T (all 2 (λ b. all 6 (λ k. leb (knock_off b k) 7)))
 unfolding answers
 knock-changes = tt
 
-by_one_call : ByOneCall 12 1 (λ b. 7) Direct ByBlock knock knock_whole
+pub by_one_call : ByOneCall 12 1 (λ b. 7) Direct ByBlock knock knock_whole
 by_one_call = record {
   filled = ByFrequency;
   buffer = room ++ room;
@@ -262,11 +241,7 @@ knock_once = (back_by_one_call 12 1 (λ b. 7) Direct ByBlock knock knock_whole r
 pub knock_once_one : BackOneQ 12 1 7 (λ b. Direct) knock (played_out ByBlock 12 1 knock_whole room)
 knock_once_one = back_one 12 1 7 (λ b. Direct) knock (played_out ByBlock 12 1 knock_whole room) knock_once
 
--- ---- and its coefficients on paper
-pub paper : List ℕ
-paper = replicate 162 0
-
-knock-printed : page_code 12 1 knock_whole paper ≡ 0
+pub knock-printed : page_code 12 1 knock_whole paper ≡ 0
 unfolding answers page_causes page_code paper
 knock-printed = refl
 
@@ -274,14 +249,7 @@ pub knock_page : page_out ByBlock 12 1 knock_whole paper ≡ ascii "       0    
 unfolding answers page_causes page_code page_out page_of columns margin aligned decimal digits_by printed paper
 knock_page = refl
 
--- at N = 24 a block has two lines: a page of 0, -1, 2, -3, .. is printed, a number of its last line is read back, and columns 1 to 8 of that line are blanks
-pub counted_up : List ℤ
-counted_up = table 24 (λ k. cond (eqb (k % 2) 0) (pos k) (minus k))
-
-pub sheet : List ℕ
-sheet = replicate 324 7
-
-counted-printed : page_code 24 1 counted_up sheet ≡ 0
+pub counted-printed : page_code 24 1 counted_up sheet ≡ 0
 unfolding answers page_causes page_code counted_up sheet
 counted-printed = refl
 

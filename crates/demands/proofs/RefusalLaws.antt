@@ -3,12 +3,11 @@
 use Rattle.std.specs.Prelude.{◌≡◌, refl, ◌≢◌, ℕ, ℤ}
 use Rattle.std.proofs.Common.{ap}
 use mathlib.Core.List.{List, [], ◌∷◌, ◌++◌}
-use Rattle.std.proofs.Math.Decide.{ℕ_discrete}
 use Rattle.stream.specs.declared.Stream.{Stream}
 use Rattle.stream_calls.specs.Streams.{step_code, step, step_out}
 use Rattle.demands.specs.Steps.{Offer, Turn, answered, run, after, taken, offers_of}
 use Rattle.demands.specs.StepLaws as L
-use Rattle.demands.proofs.RunLaws.{code, run-taken, run-refused, after-refused}
+use Rattle.demands.proofs.RunLaws.{code, run-refused, after-refused, of_taken}
 
 -- ---- the next step: its answer and its buffer are those of the stream that the refused step was handed
 pub next-answer : (s : Stream) (number l r : ℕ) (x out : List ℤ) → step_code s number l r x out ≢ 0 →
@@ -34,22 +33,14 @@ module _ (o : Offer) (rest : List Offer) where
   never_came_after (p ∷ before) s r = never_came_after before (answered s p).answer.stream r
 
 -- ---- a list without all its refused steps: what is left is taken throughout, and its turns are the taken ones
+left-taken : (offers : List Offer) (s : Stream) → (run s (offers_of (taken (run s offers))) ≡ taken (run s offers)) × (after s (offers_of (taken (run s offers))) ≡ after s offers)
+unfolding run after offers_of answered
+left-taken =
+    of_taken (λ s us last. (run s (offers_of us) ≡ us) × (after s (offers_of us) ≡ last)) (λ s. (refl, refl))
+    (λ s o us last z rest. (ap (λ (ts : List Turn). answered s o ∷ ts) rest.0, rest.1))
+
 pub only_taken : (offers : List Offer) (s : Stream) → run s (offers_of (taken (run s offers))) ≡ taken (run s offers)
-unfolding run taken offers_of answered
-only_taken [] s = refl
-only_taken (o ∷ offers) s = go (ℕ_discrete (code s o) 0) (only_taken offers)
-  where
-    go : Dec (code s o ≡ 0) → ((s : Stream) → run s (offers_of (taken (run s offers))) ≡ taken (run s offers)) →
-        run s (offers_of (taken (run s (o ∷ offers)))) ≡ taken (run s (o ∷ offers))
-    go (yes e) ih = rw (run-taken s o offers e) (ap (λ (ts : List Turn). answered s o ∷ ts) (ih (answered s o).answer.stream))
-    go (no r) ih = rw (run-refused s o offers r) (ih s)
+only_taken offers s = (left-taken offers s).0
 
 pub only_taken_after : (offers : List Offer) (s : Stream) → after s (offers_of (taken (run s offers))) ≡ after s offers
-unfolding run taken after offers_of answered
-only_taken_after [] s = refl
-only_taken_after (o ∷ offers) s = go (ℕ_discrete (code s o) 0) (only_taken_after offers)
-  where
-    go : Dec (code s o ≡ 0) → ((s : Stream) → after s (offers_of (taken (run s offers))) ≡ after s offers) →
-        after s (offers_of (taken (run s (o ∷ offers)))) ≡ after s (o ∷ offers)
-    go (yes e) ih = rw (run-taken s o offers e) (ih (answered s o).answer.stream)
-    go (no r) ih = rw (run-refused s o offers r, after-refused s o offers r) (ih s)
+only_taken_after offers s = (left-taken offers s).1

@@ -50,6 +50,20 @@ module _ (s : Stream) (o : Offer) (offers : List Offer) where
   unfolding after
   after-refused r = ap (λ (q : Stream). after q offers) (refused_stream s o r)
 
+-- what holds of the taken turns of a list, us, and of the stream after it, last: it holds of none, and with one more in front. A refused step is passed over
+pub of_taken : (P : Stream → List Turn → Stream → Type 0) → ((s : Stream) → P s [] s) →
+    ((s : Stream) (o : Offer) (us : List Turn) (last : Stream) → code s o ≡ 0 → P (answered s o).answer.stream us last → P s (answered s o ∷ us) last) →
+    (offers : List Offer) (s : Stream) → P s (taken (run s offers)) (after s offers)
+unfolding run taken after
+of_taken P none more [] s = none s
+of_taken P none more (o ∷ offers) s = go (ℕ_discrete (code s o) 0) (of_taken P none more offers)
+  where
+    go : Dec (code s o ≡ 0) → ((s : Stream) → P s (taken (run s offers)) (after s offers)) → P s (taken (run s (o ∷ offers))) (after s (o ∷ offers))
+    go (yes z) ih =
+        let s' = (answered s o).answer.stream in
+        rw (run-taken s o offers z) (more s o (taken (run s' offers)) (after s' offers) z (ih s'))
+    go (no r) ih = rw (run-refused s o offers r, after-refused s o offers r) (ih s)
+
 -- ---- entries
 pub no_entry : {A : Type 0} {l : List A} {i : ℕ} {a : A} → Entry l i a → l ≡ [] → ⊥
 no_entry first e = let z : ◌≡◌ {A = ℕ} 0 1 = cc in omega arith

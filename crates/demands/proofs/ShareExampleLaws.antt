@@ -1,28 +1,24 @@
 -- Shares at N = 12: blocks whose largest share is in the earlier or in the later block, equal shares, and a sample that did not move although a block was changed, since W is zero there. What
 -- `explained` says, applied to them. All is computed from the definitions.
-use Rattle.std.specs.Prelude.{◌≡◌, refl, true, List, [], ◌∷◌, ℕ, ◌+◌, ◌<◌, replicate, ℤ, pos}
+use Rattle.std.specs.Prelude.{◌≡◌, refl, List, ℕ, ◌+◌, ◌<◌, ℤ}
 use Rattle.std.proofs.Common.{lit≤}
 use Rattle.arithmetic.specs.Lists.{at}
 use Rattle.stream.specs.declared.Stream.{Stream}
-use Rattle.stream.specs.Synthesis as S
-use Rattle.stream_calls.specs.Streams.{step_code, step, step_out}
+use Rattle.stream_calls.specs.Streams.{step_code, step}
 use Rattle.shares.specs.Shares.{share_of, earlier, later, share_in, best, none, named, largest_share}
 use Rattle.shares.specs.Shares.Before.{block, coefficient}
-use Rattle.share_calls.specs.declared.Share.{Share}
 use Rattle.share_calls.specs.ShareCalls.{size_causes, size_code, ranged, share_causes, share_code, answered_with, refused_with, share_answer}
 use Rattle.demands.proofs.AnswerLaws.{demand_1}
 use Rattle.demands.proofs.DefinitionLaws.{demand_2}
 use Rattle.demands.specs.Demands.{share_on, Covering}
-use Rattle.demands.specs.Example.{minus, block_0, sharp_1, sharp_2, block_2, room, loud}
+use Rattle.demands.specs.Example.{sharp_1, sharp_2, block_2, room, loud}
 use Rattle.demands.proofs.ExampleLaws.{computed, twelve}
-use Rattle.demands.proofs.LevelExampleLaws.{plain_0, plain_1, long_0, long_1}
+use Rattle.demands.specs.LevelExamples.{plain_0, plain_1, long_0, long_1}
+use Rattle.demands.specs.ShareExamples.{names, zeros, up, down, even, new, running, hop_of}
 
 shares : Unit {0}
 unfolding computed share_of earlier later share_in best named largest_share size_causes size_code ranged share_causes share_code share_answer plain_0 plain_1 long_0 long_1
 shares = tt
-
-abbrev names : (block coefficient : ℕ) → Share
-names b k = record { code = 0; any = true; block = b; coefficient = k }
 
 -- ---- what storing two blocks changed
 pub in_the_earlier : share_answer 12 0 plain_0 long_0 plain_1 long_1 5 ≡ names 0 4
@@ -37,19 +33,6 @@ in_the_later = refl
 -- so that every share of the earlier block is smaller
 pub smaller-earlier : (k : ℕ) → k < 6 → share_on 12 0 plain_1 long_1 plain_0 long_0 1 0 k < share_on 12 0 plain_1 long_1 plain_0 long_0 1 1 5
 smaller-earlier k p = rw in_the_later at (demand_2.explained 12 0 plain_1 long_1 plain_0 long_0 1 (rw in_the_later refl)).before refl 0 k p block
-
--- ---- four equal shares: the earlier block's, and of its two the lower coefficient's
-abbrev zeros : List ℤ
-zeros = replicate 6 (pos 0)
-
-unfoldable pub up : List ℤ
-up = pos 0 ∷ pos 5 ∷ minus 5 ∷ pos 0 ∷ pos 0 ∷ pos 0 ∷ []
-
-unfoldable pub down : List ℤ
-down = pos 0 ∷ minus 5 ∷ pos 5 ∷ pos 0 ∷ pos 0 ∷ pos 0 ∷ []
-
-abbrev even : ℕ → ℕ → ℕ
-even = share_on 12 0 zeros up zeros down 1
 
 pub equal : (even 0 1 ≡ 7961314474068500) × (even 0 2 ≡ 7961314474068500) × (even 1 1 ≡ 7961314474068500) × (even 1 2 ≡ 7961314474068500)
 unfolding shares up down
@@ -68,17 +51,6 @@ pub none_there : share_answer 12 1 sharp_1 sharp_1 sharp_2 block_2 0 ≡ answere
 unfolding shares
 none_there = refl
 
--- a fresh stream, and one that has taken a block
-abbrev new : Stream
-new = S.fresh 12
-
-abbrev running : Stream
-running = (step new 0 0 0 block_0 room).stream
-
--- the hop that a stream returns when it takes both blocks, the first under this number
-abbrev hop_of : Stream → ℕ → List ℤ → List ℤ → List ℤ
-hop_of s number x y = step_out (step s number 0 1 x room).stream (number + 1) 1 0 y room
-
 covering : (s : Stream) (number : ℕ) (x y : List ℤ) → s.n ≡ 12 → step_code s number 0 1 x room ≡ 0 → step_code (step s number 0 1 x room).stream (number + 1) 1 0 y room ≡ 0 →
     Covering 12 1 x y (hop_of s number x y)
 covering s number x y e c d = record {
@@ -95,11 +67,11 @@ covering s number x y e c d = record {
   is = refl;
 }
 
-first_then_second : Covering 12 1 sharp_1 sharp_2 (hop_of new 0 sharp_1 sharp_2)
+pub first_then_second : Covering 12 1 sharp_1 sharp_2 (hop_of new 0 sharp_1 sharp_2)
 unfolding shares
 first_then_second = covering new 0 sharp_1 sharp_2 refl refl refl
 
-first_then_another : Covering 12 1 sharp_1 block_2 (hop_of running 1 sharp_1 block_2)
+pub first_then_another : Covering 12 1 sharp_1 block_2 (hop_of running 1 sharp_1 block_2)
 unfolding shares
 first_then_another = covering running 1 sharp_1 block_2 refl refl refl
 
@@ -113,7 +85,7 @@ pub none_at_the_end : share_answer 12 1 sharp_1 block_2 sharp_2 sharp_2 5 ≡ an
 unfolding shares
 none_at_the_end = refl
 
-another_then_second : Covering 12 1 block_2 sharp_2 (hop_of running 1 block_2 sharp_2)
+pub another_then_second : Covering 12 1 block_2 sharp_2 (hop_of running 1 block_2 sharp_2)
 unfolding shares
 another_then_second = covering running 1 block_2 sharp_2 refl refl refl
 

@@ -11,7 +11,7 @@ use Rattle.checks.specs.Causes.{First}
 use Rattle.checks.specs.Causes.First.{none, stop, pass}
 use Rattle.checks.specs.CauseLaws.{first_is, same, differs}
 use Rattle.shares.specs.Shares.{largest_share}
-use Rattle.share_calls.specs.declared.Share.{Share}
+use Rattle.share_calls.specs.Answers.{Share}
 use Rattle.share_calls.specs.ShareCalls.{size_causes, size_code, ranged, answered_with, refused_with, share_answer, name_code, name_out, numbers_of}
 use Rattle.share_calls.specs.ShareCallLaws.{sized_away, out_of_range, share_taken, name_sized_away, name_long, name_out_of_range, name-taken}
 use Rattle.demands.specs.StepLaws.{code_other}

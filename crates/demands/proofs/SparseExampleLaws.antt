@@ -12,7 +12,7 @@ use Rattle.orders.specs.Orders.{part}
 use Rattle.recording.specs.Recordings.{block}
 use Rattle.block_calls.specs.Analysis.{analyse_code, analyse_out}
 use Rattle.recording_calls.specs.Recordings.{recorded_out, played_code, played_out}
-use Rattle.state_calls.specs.States.{fresh_state}
+use Rattle.stream_calls.specs.States.{fresh_state}
 use Rattle.demands.specs.Steps.{Offer, Turn, taken, offers_of, turns, final, Entry, Brought, Numbered, change}
 use Rattle.demands.specs.Steps.Entry.{first, later}
 use Rattle.demands.proofs.RunLaws.{no_entry, entry-offer}
@@ -21,7 +21,8 @@ use Rattle.demands.proofs.ChainLaws.{fresh-calls}
 use Rattle.demands.specs.Sparse.{changes, SparseBlock, SparseNumbered, SparseOnce, SparseBlocks, sparse_distance, SparselyReturned, SparselyBack}
 use Rattle.demands.proofs.SparseLaws.{sparse_list, sparse_calls, sparse_once, sparse_blocks}
 use Rattle.demands.specs.Example.{knock, directly, sparse_0, slight_0, knock_1, totals, largests, slight_totals, room, offer, sparse_offers, slight_offers, sparse_whole}
-use Rattle.demands.proofs.ExampleLaws.{computed, answers, twelve, knock_recorded, near, knock_near_1, brought, nines, made}
+use Rattle.demands.proofs.ExampleLaws.{computed, answers, twelve, knock_recorded, near, knock_near_1, brought, made}
+use Rattle.demands.specs.ListExamples.{nines}
 use Rattle.demands.proofs.RecordingExampleLaws.{knock-analysed}
 
 -- ---- the blocks that the taken steps bring
@@ -66,7 +67,7 @@ numbered totals offers c are l e f = record { each = λ j t g. go (rw are at (en
     go (later (later e)) = absurd (no_entry e refl)
 
 -- ---- one coefficient moved by 1,000 units
-sparse_numbered : SparseNumbered 12 1 totals directly knock (turns 12 sparse_offers)
+pub sparse_numbered : SparseNumbered 12 1 totals directly knock (turns 12 sparse_offers)
 unfolding totals
 sparse_numbered = numbered totals sparse_offers sparse_0 sparse_taken (unfold computed in refl) sparse_total second-total
 
@@ -78,7 +79,7 @@ near_sparse : Holds (near 1000 directly knock 0 0 0 sparse_0)
 unfolding computed near
 near_sparse = tt
 
-by-largest : Numbered 12 1 largests directly knock (turns 12 sparse_offers)
+pub by-largest : Numbered 12 1 largests directly knock (turns 12 sparse_offers)
 by-largest = record { each = λ j t g. go (rw sparse_taken at (entry-offer g)) }
   where
     go : {j : ℕ} {o : Offer} → Entry (brought_offers sparse_0) j o → Brought 12 1 largests directly knock o.number o.left o.right o.brought
@@ -96,7 +97,7 @@ unfolding change units_of
 by_the_largest = refl
 
 -- so of each of the six samples, once both blocks are taken
-sparse_all : length (taken (turns 12 sparse_offers)) ≡ 2
+pub sparse_all : length (taken (turns 12 sparse_offers)) ≡ 2
 unfolding computed
 sparse_all = refl
 
@@ -119,11 +120,11 @@ pub sparsely_on_a_state : SparselyReturned 12 1 totals directly knock (calls (fr
 sparsely_on_a_state = sparse_calls 12 nines made 1 totals directly knock knock_recorded sparse_offers (rw (fresh-calls 12 nines made sparse_offers) sparse_numbered)
 
 -- ---- one coefficient moved by 47, below 4N: every sample comes back as it was, where the largest change alone tells 3
-slight_numbered : SparseNumbered 12 1 slight_totals directly knock (turns 12 slight_offers)
+pub slight_numbered : SparseNumbered 12 1 slight_totals directly knock (turns 12 slight_offers)
 unfolding slight_totals
 slight_numbered = numbered slight_totals slight_offers slight_0 slight_taken (unfold computed in refl) slight_total second-total
 
-slight_all : length (taken (turns 12 slight_offers)) ≡ 2
+pub slight_all : length (taken (turns 12 slight_offers)) ≡ 2
 unfolding computed
 slight_all = refl
 
@@ -135,7 +136,7 @@ as_it_was i p =
     (t, e, r.same refl refl (rw h (lit< tt)) (lit< tt))
 
 -- ---- the calls over whole recordings: analysed by one call, which filled by frequency; what is synthesised lies by block
-sparse_played : played_code 12 1 sparse_whole room ≡ 0
+pub sparse_played : played_code 12 1 sparse_whole room ≡ 0
 unfolding answers
 sparse_played = refl
 
@@ -146,7 +147,7 @@ offs : Holds (all 2 (λ b. leb (off b) (totals b)))
 unfolding answers sum_ℕ changes totals
 offs = tt
 
-by_one_call : SparseOnce 12 1 totals ByBlock knock sparse_whole
+pub by_one_call : SparseOnce 12 1 totals ByBlock knock sparse_whole
 by_one_call = record {
   filled = ByFrequency;
   buffer = room ++ room;
@@ -175,7 +176,7 @@ off-blocks : Holds (all 2 (λ b. leb (off_block b) (totals b)))
 unfolding answers sum_ℕ changes totals
 off-blocks = tt
 
-by_blocks : SparseBlocks 12 1 totals directly ByBlock knock sparse_whole
+pub by_blocks : SparseBlocks 12 1 totals directly ByBlock knock sparse_whole
 unfolding directly
 by_blocks = record {
   buffer = λ b. room;

@@ -29,8 +29,8 @@ use Rattle.block_calls.specs.AnalysisLaws.{analysed-offered, analyse_taken}
 use Rattle.block_calls.specs.Analysis.{analyse_out}
 use Rattle.recording_calls.specs.Recordings.{recorded_out, played_code, played_out}
 use Rattle.recording_calls.specs.RecordingLaws.{Recorded, recorded_facts, recorded_taken, played_facts}
-use Rattle.state_calls.specs.States.{fresh_code, fresh_state}
-use Rattle.state_calls.specs.StateLaws.{fresh-tabled}
+use Rattle.stream_calls.specs.States.{fresh_code, fresh_state}
+use Rattle.stream_calls.specs.StateLaws.{fresh-tabled}
 use Rattle.demands.specs.Steps.{Offer, Turn, Entry, taken, turns, final, Recording, Brought, Numbered}
 use Rattle.demands.specs.Chains.{calls, held}
 use Rattle.demands.specs.Recordings.{ByOneCall, BlockByBlock}

@@ -19,8 +19,8 @@ use Rattle.checks.specs.Causes.{first_cause}
 use Rattle.block_calls.specs.AnalysisLaws.{analysed-offered}
 use Rattle.recording_calls.specs.Recordings.{played_code, played_out, recorded_out}
 use Rattle.recording_calls.specs.RecordingLaws.{played_facts, recorded_facts}
-use Rattle.state_calls.specs.States.{fresh_code, fresh_state}
-use Rattle.state_calls.specs.StateLaws.{fresh-tabled}
+use Rattle.stream_calls.specs.States.{fresh_code, fresh_state}
+use Rattle.stream_calls.specs.StateLaws.{fresh-tabled}
 use Rattle.steps.specs.Table.{table_code, coarsest}
 use Rattle.level_calls.specs.LevelCalls.{quantise_out, half, distance, told_causes, told_code, told}
 use Rattle.demands.specs.Steps.{Offer, Turn, Entry, taken, turns, final, Recording, Brought, Numbered, change, Returned}

@@ -13,12 +13,12 @@ use Rattle.stream.specs.Steps.{next}
 use Rattle.analysis.specs.Analysis.{coefficients}
 use Rattle.recording.specs.Recordings.{block}
 use Rattle.analysis.specs.declared.Route.{Route}
-use Rattle.stream_calls.specs.declared.Made.{Made}
+use Rattle.stream_calls.specs.Answers.{Made}
 use Rattle.stream_calls.specs.Streams as S
 use Rattle.level_calls.specs.LevelCalls as L
 use Rattle.level_calls.specs.LevelCalls.{back_by, brought_code, quantise_out, step_levels, half}
-use Rattle.state_calls.specs.States.{entries, stream_in, fresh_code, fresh_state}
-use Rattle.state_calls.specs.StateLaws.{fresh-tabled, fresh_holds, fresh_long, same_code, same_out, same_stream, same_long}
+use Rattle.stream_calls.specs.States.{entries, stream_in, fresh_code, fresh_state}
+use Rattle.stream_calls.specs.StateLaws.{fresh-tabled, fresh_holds, fresh_long, same_code, same_out, same_stream, same_long}
 use Rattle.demands.specs.Steps.{Offer, Turn, Entry, taken, turns, final, Recording, Numbered, Answered, Returned}
 use Rattle.demands.specs.Steps.Entry.{first, later}
 use Rattle.demands.proofs.RunLaws.{no_entry}
@@ -209,7 +209,7 @@ module _ (state : List ℤ) (a : length state ≡ entries) (o : LoadOffer) where
   unfolding state_next
   next_long = long_is state a o.number o.left o.right o.buffer o.load
 
-calls_are : (offers : List LoadOffer) (state : List ℤ) → length state ≡ entries → (load_calls state offers ≡ load_run (stream_in state) offers) × (load_held state offers ≡ load_after (stream_in state) offers)
+pub calls_are : (offers : List LoadOffer) (state : List ℤ) → length state ≡ entries → (load_calls state offers ≡ load_run (stream_in state) offers) × (load_held state offers ≡ load_after (stream_in state) offers)
 unfolding load_calls load_run load_held load_after
 calls_are [] state a = (refl, refl)
 calls_are (o ∷ offers) state a =
@@ -222,7 +222,7 @@ module _ (N : ℕ) (state : List ℤ) (z : fresh_code N state ≡ 0) (offers : L
   unfolding load_turns
   load_calls_are = (calls_are offers (fresh_state N state) (fresh_long N state z)).0 ∙ ap (λ (s : Stream). load_run s offers) (fresh_holds N state z)
 
-  load_held_is : load_held (fresh_state N state) offers ≡ load_final N offers
+  pub load_held_is : load_held (fresh_state N state) offers ≡ load_final N offers
   unfolding load_final
   load_held_is = (calls_are offers (fresh_state N state) (fresh_long N state z)).1 ∙ ap (λ (s : Stream). load_after s offers) (fresh_holds N state z)
 

@@ -11,8 +11,7 @@ use Rattle.std.proofs.Math.Dec.{T, eqb, eqb→eq}
 use Rattle.std.proofs.Math.ListN.{length}
 use Rattle.arithmetic.specs.TestLaws.{is_true, is_false, is_T}
 use Rattle.text.specs.Lines.{lines, remainder}
-use Rattle.steps.specs.declared.joint.Verdict.{Verdict}
-use Rattle.steps.specs.Table.{row_of, refused, taken, malformed, joints, by_lines, verdict, table_code}
+use Rattle.steps.specs.Table.{Verdict, row_of, refused, taken, malformed, joints, by_lines, verdict, table_code}
 use Rattle.demands.specs.Answers.{start_of, Rows, Joined, TableAnswers}
 
 -- ---- 9

@@ -18,7 +18,7 @@ use Rattle.stream_calls.specs.StreamLaws.{step-number, step_left}
 use Rattle.demands.specs.Steps.{Offer, Turn, answered, run, after, taken, turns, final, Entry, Recording, Brought, Numbered, proved_change, Answered, Returned, WholeReturned, Restored, ReturnedOneQ, Sharper}
 use Rattle.demands.specs.Steps.Entry.{first, later}
 use Rattle.demands.specs.StepLaws.{taken_buffer, taken_stream, sound_seven, only_seven}
-use Rattle.demands.proofs.RunLaws.{code, answered-code, refused_stream, refused_buffer, taken_yes, taken_no, run-taken, run-refused, after-refused, no_entry, entry_at, entry-taken}
+use Rattle.demands.proofs.RunLaws.{code, answered-code, refused_stream, refused_buffer, taken_yes, taken_no, of_taken, no_entry, entry_at, entry-taken}
 use Rattle.demands.proofs.RecordingLaws.{overlapped, hop_of, back-near, back-same, near_asked, restored}
 use Rattle.stream.specs.NextLaws.{Fine, hop_long, hop_entry, next-at}
 use Rattle.demands.proofs.StreamLaws.{fresh-is, fine_made, fine_sound, fine_four, fine_answered, fine_after, taken_next}
@@ -62,91 +62,76 @@ expected_at (o ∷ offers) s i u (later {i = k} e) = go (ℕ_discrete (code s o)
     go (yes z) ih = rw (taken_yes (answered s o) rest (answered-code s o ∙ z)) (omega (arith, ih, counted s o z))
     go (no r) ih = rw (taken_no (answered s o) rest (rw (answered-code s o) r)) (omega (arith, ih, uncounted s o r))
 
--- and so does the stream after the list
+-- ---- the taken turns of a list from s on, last the stream after it
+record Followed (s : Stream) (us : List Turn) (last : Stream) : Type 0 where
+  -- one more is expected for each, and their numbers follow one another without a gap
+  expected : last.expected ≡ s.expected + length us
+  numbers : (j : ℕ) (u : Turn) → Entry us j u → u.offer.number ≡ s.expected + j
+  -- the first begins as the stream ends, and the others as the one before
+  first_joint : (u : Turn) → Entry us 0 u → u.offer.left ≡ s.shape
+  joints : (j : ℕ) (t u : Turn) → Entry us j t → Entry us (suc j) u → u.offer.left ≡ t.offer.right
+  -- the stream after the list ends as the last of them
+  ends_none : length us ≡ 0 → last.shape ≡ s.shape
+  ends : (j : ℕ) (u : Turn) → Entry us j u → length us ≡ suc j → last.shape ≡ u.offer.right
+
+none-followed : (s : Stream) → Followed s [] s
+none-followed s = record {
+  expected = omega arith;
+  numbers = λ j u e. absurd (no_entry e refl);
+  first_joint = λ u e. absurd (no_entry e refl);
+  joints = λ j t u e. absurd (no_entry e refl);
+  ends_none = λ e. refl;
+  ends = λ j u e. absurd (no_entry e refl);
+}
+
+-- one more in front
+module _ (s : Stream) (o : Offer) (us : List Turn) (last : Stream) (z : code s o ≡ 0) (f : Followed (answered s o).answer.stream us last) where
+  numbers_more : (j : ℕ) (u : Turn) → Entry (answered s o ∷ us) j u → u.offer.number ≡ s.expected + j
+  numbers_more j u first = unfold answered in omega (arith, as_expected s o z)
+  numbers_more j u (later {i = k} e) = omega (arith, f.numbers k u e, counted s o z)
+
+  first_more : (u : Turn) → Entry (answered s o ∷ us) 0 u → u.offer.left ≡ s.shape
+  first_more u first = unfold answered in as_ended s o z
+
+  joints_more : (j : ℕ) (t u : Turn) → Entry (answered s o ∷ us) j t → Entry (answered s o ∷ us) (suc j) u → u.offer.left ≡ t.offer.right
+  joints_more j t u first (later h) = unfold answered in f.first_joint u h ∙ remembered s o z
+  joints_more j t u (later {i = k} g) (later h) = f.joints k t u g h
+
+  ends_more : (j : ℕ) (u : Turn) → Entry (answered s o ∷ us) j u → suc (length us) ≡ suc j → last.shape ≡ u.offer.right
+  ends_more j u first e = unfold answered in f.ends_none (omega arith) ∙ remembered s o z
+  ends_more j u (later {i = k} g) e = f.ends k u g (omega arith)
+
+  more-followed : Followed s (answered s o ∷ us) last
+  more-followed = record {
+    expected = omega (arith, f.expected, counted s o z);
+    numbers = numbers_more;
+    first_joint = first_more;
+    joints = joints_more;
+    ends_none = λ (e : suc (length us) ≡ 0). absurd (omega arith);
+    ends = ends_more;
+  }
+
+followed : (offers : List Offer) (s : Stream) → Followed s (taken (run s offers)) (after s offers)
+followed = of_taken Followed none-followed more-followed
+
+-- the stream after a list expects as many more as were taken
 expected_after : (offers : List Offer) (s : Stream) → (after s offers).expected ≡ s.expected + length (taken (run s offers))
-unfolding run taken after
-expected_after [] s = omega arith
-expected_after (o ∷ offers) s = go (ℕ_discrete (code s o) 0) (expected_after offers)
-  where
-    go : Dec (code s o ≡ 0) → ((s : Stream) → (after s offers).expected ≡ s.expected + length (taken (run s offers))) →
-        (after s (o ∷ offers)).expected ≡ s.expected + length (taken (run s (o ∷ offers)))
-    go (yes z) ih = rw (run-taken s o offers z) (omega (arith, ih (answered s o).answer.stream, counted s o z))
-    go (no r) ih = rw (run-refused s o offers r, after-refused s o offers r) (ih s)
+expected_after offers s = (followed offers s).expected
 
--- the taken numbers follow one another without a gap
 numbers-from : (offers : List Offer) (s : Stream) (j : ℕ) (u : Turn) → Entry (taken (run s offers)) j u → u.offer.number ≡ s.expected + j
-unfolding run taken
-numbers-from [] s j u e = absurd (no_entry e refl)
-numbers-from (o ∷ offers) s j u e = go (ℕ_discrete (code s o) 0) (numbers-from offers)
-  where
-    goal : Stream → Type 0
-    goal s = (j : ℕ) (u : Turn) → Entry (taken (run s offers)) j u → u.offer.number ≡ s.expected + j
+numbers-from offers s = (followed offers s).numbers
 
-    cases : code s o ≡ 0 → goal (answered s o).answer.stream → (j : ℕ) (u : Turn) → Entry (answered s o ∷ taken (run (answered s o).answer.stream offers)) j u →
-        u.offer.number ≡ s.expected + j
-    cases z ih j u first = unfold answered in omega (arith, as_expected s o z)
-    cases z ih j u (later {i = k} f) = omega (arith, ih k u f, counted s o z)
-
-    go : Dec (code s o ≡ 0) → ((s : Stream) → goal s) → u.offer.number ≡ s.expected + j
-    go (yes z) ih = cases z (ih (answered s o).answer.stream) j u (rw (run-taken s o offers z) at e)
-    go (no r) ih = ih s j u (rw (run-refused s o offers r) at e)
-
--- the first block that is taken begins as the stream ends, and the others as the one before
 first-from : (offers : List Offer) (s : Stream) (u : Turn) → Entry (taken (run s offers)) 0 u → u.offer.left ≡ s.shape
-unfolding run taken
-first-from [] s u e = absurd (no_entry e refl)
-first-from (o ∷ offers) s u e = go (ℕ_discrete (code s o) 0) (first-from offers)
-  where
-    cases : code s o ≡ 0 → (us : List Turn) (u : Turn) → Entry (answered s o ∷ us) 0 u → u.offer.left ≡ s.shape
-    cases z us u first = unfold answered in as_ended s o z
-
-    go : Dec (code s o ≡ 0) → ((s : Stream) (u : Turn) → Entry (taken (run s offers)) 0 u → u.offer.left ≡ s.shape) → u.offer.left ≡ s.shape
-    go (yes z) ih = cases z (taken (run (answered s o).answer.stream offers)) u (rw (run-taken s o offers z) at e)
-    go (no q) ih = ih s u (rw (run-refused s o offers q) at e)
+first-from offers s = (followed offers s).first_joint
 
 joints-from : (offers : List Offer) (s : Stream) (j : ℕ) (t u : Turn) → Entry (taken (run s offers)) j t → Entry (taken (run s offers)) (suc j) u → u.offer.left ≡ t.offer.right
-unfolding run taken
-joints-from [] s j t u e f = absurd (no_entry e refl)
-joints-from (o ∷ offers) s j t u e f = go (ℕ_discrete (code s o) 0) (joints-from offers)
-  where
-    goal : Stream → Type 0
-    goal s = (j : ℕ) (t u : Turn) → Entry (taken (run s offers)) j t → Entry (taken (run s offers)) (suc j) u → u.offer.left ≡ t.offer.right
+joints-from offers s = (followed offers s).joints
 
-    cases : code s o ≡ 0 → goal (answered s o).answer.stream → (j : ℕ) (t u : Turn) → Entry (answered s o ∷ taken (run (answered s o).answer.stream offers)) j t →
-        Entry (answered s o ∷ taken (run (answered s o).answer.stream offers)) (suc j) u → u.offer.left ≡ t.offer.right
-    cases z ih j t u first (later h) = unfold answered in first-from offers (answered s o).answer.stream u h ∙ remembered s o z
-    cases z ih j t u (later {i = k} g) (later h) = ih k t u g h
-
-    go : Dec (code s o ≡ 0) → ((s : Stream) → goal s) → u.offer.left ≡ t.offer.right
-    go (yes z) ih = cases z (ih (answered s o).answer.stream) j t u (rw (run-taken s o offers z) at e) (rw (run-taken s o offers z) at f)
-    go (no q) ih = ih s j t u (rw (run-refused s o offers q) at e) (rw (run-refused s o offers q) at f)
-
--- the stream after the list ends as the last block that is taken
 after_none : (offers : List Offer) (s : Stream) → length (taken (run s offers)) ≡ 0 → (after s offers).shape ≡ s.shape
-unfolding run taken after
-after_none [] s e = refl
-after_none (o ∷ offers) s e = go (ℕ_discrete (code s o) 0) (after_none offers)
-  where
-    go : Dec (code s o ≡ 0) → ((s : Stream) → length (taken (run s offers)) ≡ 0 → (after s offers).shape ≡ s.shape) → (after s (o ∷ offers)).shape ≡ s.shape
-    go (yes z) ih = let f : suc (length (taken (run (answered s o).answer.stream offers))) ≡ 0 = rw (run-taken s o offers z) at e in absurd (omega arith)
-    go (no q) ih = ap (λ (r : Stream). r.shape) (after-refused s o offers q) ∙ ih s (rw (run-refused s o offers q) at e)
+after_none offers s = (followed offers s).ends_none
 
 after_last : (offers : List Offer) (s : Stream) (j : ℕ) (u : Turn) → Entry (taken (run s offers)) j u → length (taken (run s offers)) ≡ suc j → (after s offers).shape ≡ u.offer.right
-unfolding run taken after
-after_last [] s j u e f = absurd (no_entry e refl)
-after_last (o ∷ offers) s j u e f = go (ℕ_discrete (code s o) 0) (after_last offers)
-  where
-    goal : Stream → Type 0
-    goal s = (j : ℕ) (u : Turn) → Entry (taken (run s offers)) j u → length (taken (run s offers)) ≡ suc j → (after s offers).shape ≡ u.offer.right
-
-    cases : code s o ≡ 0 → goal (answered s o).answer.stream → (j : ℕ) (u : Turn) → Entry (answered s o ∷ taken (run (answered s o).answer.stream offers)) j u →
-        suc (length (taken (run (answered s o).answer.stream offers))) ≡ suc j → (after (answered s o).answer.stream offers).shape ≡ u.offer.right
-    cases z ih j u first f = unfold answered in after_none offers (answered s o).answer.stream (omega arith) ∙ remembered s o z
-    cases z ih j u (later {i = k} g) f = ih k u g (omega arith)
-
-    go : Dec (code s o ≡ 0) → ((s : Stream) → goal s) → (after s (o ∷ offers)).shape ≡ u.offer.right
-    go (yes z) ih = cases z (ih (answered s o).answer.stream) j u (rw (run-taken s o offers z) at e) (rw (run-taken s o offers z) at f)
-    go (no q) ih = ap (λ (r : Stream). r.shape) (after-refused s o offers q) ∙ ih s j u (rw (run-refused s o offers q) at e) (rw (run-refused s o offers q) at f)
+after_last offers s = (followed offers s).ends
 
 -- from a fresh stream
 fresh-shape : (N : ℕ) → T (tabled N) → (fresh N).stream.shape ≡ 0
@@ -246,20 +231,11 @@ module _ (N : ℕ) (t : T (tabled N)) where
         go i v (later {i = l} h) b e = ks.each l v h b (omega arith)
 
     hops : (offers : List Offer) (s : Stream) (j : ℕ) → State j s → Bring j (taken (run s offers)) → Keep j (taken (run s offers))
-    unfolding run taken
-    hops [] s j st br = keep_none j
-    hops (o ∷ offers) s j st br = go (ℕ_discrete (code s o) 0) (hops offers)
-      where
-        go : Dec (code s o ≡ 0) → ((s : Stream) (j : ℕ) → State j s → Bring j (taken (run s offers)) → Keep j (taken (run s offers))) → Keep j (taken (run s (o ∷ offers)))
-        go (no r) ih = rw (run-refused s o offers r) (ih s j st (rw (run-refused s o offers r) at br))
-        go (yes z) ih =
-            let s' = (answered s o).answer.stream in
-            let us = taken (run s' offers) in
-            let br' : Bring j (answered s o ∷ us) = rw (run-taken s o offers z) at br in
-            let now : P j o.left o.right o.brought = unfold answered in bring-first j (answered s o) us br' in
-            rw (run-taken s o offers z)
-            (keep_cons j (answered s o) us (λ b e. kept s o z b (rw e at st) (rw e at now))
-            (ih s' (suc j) (state_goes_on s o z j st now) (bring-later j (answered s o) us br')))
+    unfolding answered
+    hops = of_taken (λ s us last. (j : ℕ) → State j s → Bring j us → Keep j us) (λ s j st br. keep_none j)
+        (λ s o us last z ih j st br.
+        let now : P j o.left o.right o.brought = bring-first j (answered s o) us br in
+        keep_cons j (answered s o) us (λ b e. kept s o z b (rw e at st) (rw e at now)) (ih (suc j) (state_goes_on s o z j st now) (bring-later j (answered s o) us br)))
 
     state-fresh : State 0 (fresh N).stream
     state-fresh = record { fine = fine_made N t; before = λ b e. absurd (omega arith) }

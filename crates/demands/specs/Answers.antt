@@ -14,10 +14,9 @@ use Rattle.orders.specs.declared.Order.{Order}
 use Rattle.orders.specs.declared.Order.TheVariants.{ByBlock, ByFrequency}
 use Rattle.orders.specs.Orders.{order_of, hops_in}
 use Rattle.recording_calls.specs.Recordings.{recorded_code, recorded_out, played_code, played_out, reorder_code, reorder_out, inner_of}
-use Rattle.state_calls.specs.States.{entries, stream_in, fresh_code, fresh_state, step_state, step_code as state_code, step_out as state_out}
+use Rattle.stream_calls.specs.States.{entries, stream_in, fresh_code, fresh_state, step_state, step_code as state_code, step_out as state_out}
 use Rattle.steps.specs.Table as G
-use Rattle.steps.specs.Table.{row_of, refused, verdict, table_code, coarsest}
-use Rattle.steps.specs.declared.row.Line.{Line}
+use Rattle.steps.specs.Table.{row_of, refused, verdict, table_code, coarsest, Line}
 use Rattle.level_calls.specs.LevelCalls as L
 use Rattle.level_calls.specs.LevelCalls.{quantise_code, quantise_out, dequantise_code, dequantise_out, told, tell_number, tell_number_out, step_levels}
 use Rattle.table_report.specs.Report.{taken_lines, report_of}

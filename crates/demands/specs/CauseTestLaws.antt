@@ -1,5 +1,5 @@
 -- The causes of Answers, in words of the input, as the tests that the calls make.
-use Rattle.std.specs.Prelude.{◌≡◌, ◌≢◌, Bool, List, ℕ, ◌<◌, T, leb, length, ℤ, pos, nat_abs, ◌<ℤ◌}
+use Rattle.std.specs.Prelude.{◌≡◌, ◌≢◌, Bool, List, [], ◌∷◌, ℕ, ◌^◌, ◌≤◌, ◌<◌, T, eqb, leb, length, ℤ, pos, nat_abs, ◌<ℤ◌}
 use Rattle.std.proofs.Math.Path.{refl}
 use Rattle.std.proofs.Math.Bool.{true, false, cond}
 use Rattle.std.proofs.Common.{arith, leb→le}
@@ -11,12 +11,15 @@ use Rattle.arithmetic.specs.TestLaws.{all_make, both_left, both_right, cond_yes,
 use Rattle.cosine.specs.Kernels.{lengths, tabled}
 use Rattle.stream.specs.declared.Stream.{Stream}
 use Rattle.checks.specs.Limits.{within, tail_limit, coefficient_limit, in_range, hop_limit, counted, are_shapes}
+use Rattle.checks.specs.Causes.{Cause, ◌unless◌, first_cause, First}
+use Rattle.checks.specs.Causes.First.{none, stop, pass}
+use Rattle.checks.specs.CauseLaws.{first_is, differs, same, beside}
 use Rattle.checks.specs.LimitLaws.{range_small, abs_within, counted-some, counted-most}
 use Rattle.stream_calls.specs.Streams.{sound, fits}
 use Rattle.stream_calls.specs.StreamLaws.{sound-tabled, sound-bounded}
-use Rattle.state_calls.specs.States as F
+use Rattle.stream_calls.specs.States as F
 use Rattle.demands.specs.StepLaws.{sound_of}
-use Rattle.demands.specs.Answers.{Tabled, Counted, InRange, SoundTail, Shapes}
+use Rattle.demands.specs.Answers.{Tabled, Counted, InRange, SoundTail, Shapes, Fitting}
 
 module _ (H : ℕ) where
   pub counts : Counted H → counted H ≡ true
@@ -36,6 +39,28 @@ module _ (x : List ℤ) (m : ℕ) (l : length x ≡ m) where
 
   pub ranges_not : ¬ InRange x → in_range m x ≡ false
   ranges_not n = is_false (λ t. n (of_ranges (is_true t)))
+
+-- the calls that are handed m coefficients of a whole recording, and a buffer of `room` places where `stated` are asked: their number, by what fails first
+pub record RecordingCauses (N H : ℕ) (x : List ℤ) (m room stated code : ℕ) : Type 0 where
+  pub one : ¬ Tabled N → code ≡ 1
+  pub two_hops : Tabled N → ¬ Counted H → code ≡ 2
+  pub two_in : Tabled N → length x ≢ m → code ≡ 2
+  pub two_out : Tabled N → room ≢ stated → code ≡ 2
+  pub three : Tabled N → Counted H → length x ≡ m → room ≡ stated → ¬ InRange x → code ≡ 3
+  pub taken : Tabled N → Counted H → length x ≡ m → room ≡ stated → InRange x → code ≡ 0
+
+pub recording_causes : (N H : ℕ) (x : List ℤ) (m room stated : ℕ) →
+    RecordingCauses N H x m room stated (first_cause (1 unless tabled N ∷ 2 unless counted H ∷ 2 unless eqb (length x) m ∷ 2 unless eqb room stated ∷ 3 unless in_range m x ∷ []))
+recording_causes N H x m room stated =
+    let cs = 1 unless tabled N ∷ 2 unless counted H ∷ 2 unless eqb (length x) m ∷ 2 unless eqb room stated ∷ 3 unless in_range m x ∷ [] in
+    record {
+      one = λ n. first_is cs (stop (is_false n));
+      two_hops = λ t n. first_is cs (pass (is_true t) (stop (counts_not H n)));
+      two_in = λ t n. first_is cs (pass (is_true t) (beside (differs n)));
+      two_out = λ t n. first_is cs (pass (is_true t) (beside (beside (differs n))));
+      three = λ t k l r n. first_is cs (pass (is_true t) (pass (counts H k) (same l (same r (stop (ranges_not x m l n))))));
+      taken = λ t k l r i. first_is cs (pass (is_true t) (pass (counts H k) (same l (same r (pass (ranges x m l i) none)))));
+    }
 
 module _ (s : Stream) where
   pub sounds : Tabled s.n → SoundTail s → sound s ≡ true
@@ -86,6 +111,35 @@ module _ (s : Stream) (l r : ℕ) where
       go : Dec (l ≡ s.shape) → fits l r s.shape ≡ false
       go (yes e) = fits_not (λ (q : Shapes l r). omega (arith, q.left_is, e, h))
       go (no n) = fits-other n
+
+-- ---- the first three causes of a step, whatever stands behind them
+pub record AdmittingCauses (s : Stream) (number l r code : ℕ) : Type 0 where
+  pub four_n : ¬ Tabled s.n → code ≡ 4
+  pub four_tail : ¬ SoundTail s → code ≡ 4
+  pub seven : Tabled s.n → SoundTail s → number ≢ s.expected → code ≡ 7
+  pub seven_none : Tabled s.n → SoundTail s → number < 2 ^ 32 → 2 ^ 32 ≤ s.expected → code ≡ 7
+  pub eight : Tabled s.n → SoundTail s → number ≡ s.expected → ¬ Shapes l r → code ≡ 8
+  pub eight_left : Tabled s.n → SoundTail s → number ≡ s.expected → l ≢ s.shape → code ≡ 8
+  pub eight_forged : Tabled s.n → SoundTail s → number ≡ s.expected → 1 < s.shape → code ≡ 8
+
+pub admitting_causes : (s : Stream) (number l r : ℕ) (cs : List Cause) →
+    AdmittingCauses s number l r (first_cause (4 unless sound s ∷ 7 unless eqb number s.expected ∷ 8 unless fits l r s.shape ∷ cs))
+admitting_causes s number l r cs =
+    let all = 4 unless sound s ∷ 7 unless eqb number s.expected ∷ 8 unless fits l r s.shape ∷ cs in
+    record {
+      four_n = λ n. first_is all (stop (sounds_not_n s n));
+      four_tail = λ n. first_is all (stop (sounds_not_tail s n));
+      seven = λ t h n. first_is all (pass (sounds s t h) (differs n));
+      seven_none = λ t h p q. first_is all (pass (sounds s t h) (differs (λ (e : number ≡ s.expected). omega (arith, e, p, q))));
+      eight = λ t h e n. first_is all (pass (sounds s t h) (same e (stop (fits_not s l r n))));
+      eight_left = λ t h e n. first_is all (pass (sounds s t h) (same e (stop (fits-other s l r n))));
+      eight_forged = λ t h e p. first_is all (pass (sounds s t h) (same e (stop (fits_forged s l r p))));
+    }
+
+-- a fitting block's causes are those behind the first three
+pub admitted : (s : Stream) (number l r : ℕ) {k : ℕ} {cs : List Cause} → Fitting s number l r → First cs k →
+    First (4 unless sound s ∷ 7 unless eqb number s.expected ∷ 8 unless fits l r s.shape ∷ cs) k
+admitted s number l r f g = pass (sounds s f.length_is f.tail_is) (same f.number_is (pass (fits-true s l r f.shapes f.left_is) g))
 
 -- ---- the entries of a state
 -- what an entry below zero stands for

@@ -1,7 +1,7 @@
 -- Demand 3 for a list of steps on one state: definitions. Each call of `step_in_place`, or of `dapplescree_stream_step`, is handed the state that the call before left.
 use Rattle.std.specs.Prelude.{List, [], ◌∷◌, ℤ}
 use Rattle.stream.specs.declared.Stream.{Stream}
-use Rattle.state_calls.specs.States.{stream_in, step_code, step_state, step_out}
+use Rattle.stream_calls.specs.States.{stream_in, step_code, step_state, step_out}
 use Rattle.demands.specs.Steps.{Offer, Turn}
 
 -- one call as a turn: the streams that the state holds before and after it, its number, and what the buffer holds as it ends

@@ -6,7 +6,7 @@ use Rattle.orders.specs.declared.Order.{Order}
 use Rattle.recording_calls.specs.Recordings.{recorded_code, recorded_out, played_code, played_out}
 use Rattle.step_search.specs.Search.{top, sure, course}
 use Rattle.coarsest.specs.Coarsest.{stepped, passes}
-use Rattle.coarsest_calls.specs.declared.Coarsest.{Coarsest}
+use Rattle.coarsest_calls.specs.Answers.{Coarsest}
 
 -- a recording there and back through the calls over recordings, in either order: analysed directly into `room`, every coefficient to its level by one step and back, and
 -- synthesised into `out`

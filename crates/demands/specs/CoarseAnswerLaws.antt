@@ -17,8 +17,7 @@ use Rattle.coarsest_calls.specs.CoarsestCalls.{most_allowed, coarsest_causes, co
 use Rattle.text.specs.Number.{most_digits, value}
 use Rattle.text.specs.Refusal.{refusal}
 use Rattle.listing.specs.Hops.{digits}
-use Rattle.listing.specs.declared.verdict.Verdict.{Verdict}
-use Rattle.listing.specs.Verdicts.{taken, verdict, hops_of}
+use Rattle.listing.specs.Verdicts.{Verdict, taken, verdict, hops_of}
 use Rattle.listing.specs.HopLaws.{hops-counted}
 use Rattle.listing.specs.VerdictLaws.{Taken, verdict-taken}
 use Rattle.listing.specs.SizeLaws.{taken-hops}

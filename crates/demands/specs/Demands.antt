@@ -1,5 +1,7 @@
 -- THE THREE DEMANDS, for every signal, over the definitions that the contracts of the public calls cite (specs/ of block_calls, stream_calls,
--- state_calls, recording_calls, level_calls, share_calls, coarsest_calls, float_calls, page, listing and, for an order's number, orders). Each record below is one demand or a part of it; the theorems `demand_1`, `demand_2`, `either_order`, `demand_3`, `levels_kept`, `sparse_kept`, `coarsest_found`, `floats_exact` and `beyond` of DemandLaws prove them.
+-- recording_calls, level_calls, share_calls, coarsest_calls, float_calls, page, listing and, for an order's number, orders). Each record below is one demand or a part of it, and the contract of a function of src/lib.rt: `Demand1` of
+-- `every_call_answers`, `Demand2` of `every_number_defined`, `EitherOrder` of `orders_answer_alike`, `OneQ` of `returned_by_one_bound`, `Demand3` of `sound_returned`, `LevelsKept` of `levels_kept`, `SparseKept` of `sparse_changes_kept`,
+-- `CoarsestFound` of `coarsest_step_found`, `FloatsExact` of `floats_exact` and `Beyond` of `sound_returned_closer`. The laws of DemandLaws prove them.
 --
 -- What the contracts add: a call ends on any numbers and any buffer lengths and never overflows, and what it returns and leaves is what these
 -- definitions say. A check of the public calls' crates proves that of the code.
@@ -20,7 +22,7 @@ use Rattle.recording.specs.Recordings.{block}
 use Rattle.block_calls.specs.Analysis.{analyse_code, analyse_out}
 use Rattle.stream_calls.specs.Streams.{step_code, step, step_out}
 use Rattle.recording_calls.specs.Recordings.{recorded_code, recorded_out, played_code, played_out, reorder_code, reorder_out}
-use Rattle.state_calls.specs.States.{fresh_code, fresh_state}
+use Rattle.stream_calls.specs.States.{fresh_code, fresh_state}
 use Rattle.steps.specs.Table.{row_of, step_at, Covered, coarsest}
 use Rattle.levels.specs.Levels.{clipped}
 use Rattle.level_calls.specs.LevelCalls as L
@@ -31,7 +33,7 @@ use Rattle.coarsest_calls.specs.CoarsestCalls.{coarsest_answer}
 use Rattle.step_search.specs.Search.{sure}
 use Rattle.floats.specs.Floats.{sixty_fourth}
 use Rattle.float_calls.specs.FloatCalls.{floats_code, ends_of}
-use Rattle.share_calls.specs.declared.Share.{Share}
+use Rattle.share_calls.specs.Answers.{Share}
 use Rattle.share_calls.specs.ShareCalls.{share_answer}
 use Rattle.share_calls.specs.RecordingShares.{recording_share, recording_name_code, recording_name_out}
 use Rattle.text.specs.Bytes.{line_feed, blank}

@@ -4,7 +4,7 @@ use Rattle.std.specs.Float.{nan}
 use Rattle.std.specs.Float.Ieee.Exact.{HasValue}
 use Rattle.arithmetic.specs.Lists.{at}
 use Rattle.floats.specs.Floats.{negative, plus_zero}
-use Rattle.float_calls.specs.declared.Ends.{Ends}
+use Rattle.float_calls.specs.Answers.{Ends}
 use Rattle.float_calls.specs.FloatCalls.{floats_code, floats_out}
 
 -- 'a float equal to X/64 exactly': it is finite, has X's sign, and its size times 64 is that of X. 0 is +0.0

@@ -16,5 +16,16 @@ pub mod OrderAnswerLaws
 pub mod CoarseAnswerLaws
 pub mod FloatAnswerLaws
 pub mod Turned
-pub mod TurnLaws
+pub mod OnAState
+pub mod Unchanged
+pub mod PassedOver
+pub mod Listings
 pub mod Example
+pub mod ListExamples
+pub mod RecordingExamples
+pub mod SparseExamples
+pub mod LevelExamples
+pub mod ShareExamples
+pub mod OrderExamples
+pub mod CoarseExamples
+pub mod FloatExamples

@@ -9,9 +9,8 @@ use Rattle.cosine.specs.Kernels.{tabled}
 use Rattle.text.specs.Number.{is_number, value}
 use Rattle.text.specs.Lines.{lines, remainder}
 use Rattle.listing.specs.Hops.{digits, is_hop}
-use Rattle.listing.specs.declared.verdict.Verdict.{Verdict}
+use Rattle.listing.specs.Verdicts.{Verdict, limit, refused, taken, by_hops, by_length, by_lines, verdict}
 use Rattle.listing.specs.VerdictLaws.{Taken, verdict-taken}
-use Rattle.listing.specs.Verdicts.{limit, refused, taken, by_hops, by_length, by_lines, verdict}
 use Rattle.text.specs.Refusal.{refusal}
 use Rattle.listing.specs.Listing.{returned_hops, table, listing}
 use Rattle.listing.proofs.RowLaws.{listing-most}

@@ -12,27 +12,26 @@ use Rattle.checks.specs.Causes.{First}
 use Rattle.checks.specs.Causes.First.{none, stop, pass}
 use Rattle.checks.specs.CauseLaws.{first_is, same, differs, beside}
 use Rattle.recording_calls.specs.Recordings.{reorder_causes, reorder_code, reorder_out}
-use Rattle.share_calls.specs.declared.Share.{Share}
+use Rattle.share_calls.specs.Answers.{Share}
 use Rattle.share_calls.specs.ShareCalls.{answered_with, refused_with, numbers_of}
 use Rattle.share_calls.specs.RecordingShares.{share_at, numbered_from, place_causes, place_code, both_ranged, recording_share, recording_name_code, recording_name_out}
 use Rattle.share_calls.specs.RecordingShareLaws.{placed_away, out_of_range, share_taken, name_placed_away, name_long, name_out_of_range, name-taken}
 use Rattle.demands.specs.StepLaws.{code_other}
-use Rattle.demands.specs.CauseTestLaws.{counts, counts_not, ranges, of_ranges, ranges_not}
+use Rattle.demands.specs.CauseTestLaws.{counts, counts_not, ranges, of_ranges, recording_causes}
 use Rattle.demands.specs.Answers.{Tabled, Counted, InRange, ReorderAnswers, NumberAnswers, PlacedIn, RecordingShareAnswers, RecordingNameAnswers}
 
 pub reorder_answers : (to : Order) (N H : ℕ) (x out : List ℤ) → ReorderAnswers to N H x out
 unfolding reorder_causes reorder_code reorder_out
 reorder_answers to N H x out =
-    let m = (H + 1) * (N / 2) in
-    let cs = reorder_causes N H x out in
+    let r = recording_causes N H x ((H + 1) * (N / 2)) (length out) ((H + 1) * (N / 2)) in
     record {
-      one = λ n. first_is cs (stop (is_false n));
-      two_hops = λ t n. first_is cs (pass (is_true t) (stop (counts_not H n)));
-      two_in = λ t n. first_is cs (pass (is_true t) (beside (differs n)));
-      two_out = λ t n. first_is cs (pass (is_true t) (beside (beside (differs n))));
-      three = λ t k l f n. first_is cs (pass (is_true t) (pass (counts H k) (same l (same f (stop (ranges_not x m l n))))));
-      taken = λ t k l f r. first_is cs (pass (is_true t) (pass (counts H k) (same l (same f (pass (ranges x m l r) none)))));
-      kept = λ r. code_other (reorder_code N H x out) (reordered to (N / 2) (H + 1) x) out r;
+      one = r.one;
+      two_hops = r.two_hops;
+      two_in = r.two_in;
+      two_out = r.two_out;
+      three = r.three;
+      taken = r.taken;
+      kept = λ n. code_other (reorder_code N H x out) (reordered to (N / 2) (H + 1) x) out n;
     }
 
 pub number-answers : (order H : ℕ) → NumberAnswers order H

@@ -7,7 +7,7 @@ use Rattle.stream.specs.Synthesis.{storage}
 use Rattle.stream.specs.declared.Stream.{Stream}
 use Rattle.analysis.specs.declared.Route.{Route}
 use Rattle.analysis.specs.declared.Route.TheVariants.{Direct, Short, Double}
-use Rattle.stream_calls.specs.declared.Stepped.{Stepped}
+use Rattle.stream_calls.specs.Answers.{Stepped}
 use Rattle.analysis.specs.Analysis.{offered, coefficients, units_of}
 use Rattle.recording.specs.Recordings.{block}
 use Rattle.stream_calls.specs.Streams.{fresh, step, step_out}

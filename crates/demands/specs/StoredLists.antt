@@ -3,11 +3,11 @@
 -- `step_levels` and the like are those that the public calls' contracts cite.
 use Rattle.std.specs.Prelude.{◌≡◌, cond, List, [], ◌∷◌, ℕ, ◌≤◌, T, eqb, ℤ}
 use Rattle.stream.specs.declared.Stream.{Stream}
-use Rattle.stream_calls.specs.declared.Stepped.{Stepped}
+use Rattle.stream_calls.specs.Answers.{Stepped}
 use Rattle.stream_calls.specs.Streams as S
 use Rattle.stream_calls.specs.Streams.{fresh}
-use Rattle.state_calls.specs.States as C
-use Rattle.state_calls.specs.States.{stream_in}
+use Rattle.stream_calls.specs.States as C
+use Rattle.stream_calls.specs.States.{stream_in}
 use Rattle.analysis.specs.declared.Route.{Route}
 use Rattle.analysis.specs.Analysis.{offered, coefficients}
 use Rattle.recording.specs.Recordings.{block}

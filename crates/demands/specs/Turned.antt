@@ -1,5 +1,5 @@
 -- THE SIGN RULE, over the definitions that the contracts of the public calls cite: sound with its sign turned codes to coefficients with their signs
--- turned. Document 02, P5. The theorem `sign_rule` of TurnLaws proves it.
+-- turned. Document 02, P5. The contract of `sign_rule`, by TurnLaws.
 use Rattle.std.specs.Prelude.{◌≡◌, ◌≢◌, List, [], ◌∷◌, ℕ, ◌<◌, length, ℤ, neg_ℤ}
 use Rattle.arithmetic.specs.Rounding.{least, Sample}
 use Rattle.arithmetic.specs.Lists.{at}

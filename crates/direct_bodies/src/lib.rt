@@ -1,143 +1,86 @@
-// The direct analysis of one block, a body for each length: each lends its own tables and calls every leaf by itself, so that the compiler knows every
-// count. The leaves are in `transform`, the sums from N = 36 on in `block_sums`.
+// The direct analysis of one block: one body for every length, which is lent a length's window and sums.
 // No function here is a public call: `analysis` and `listing` call `analyse`, after every check.
 #![tactic(auto)]
 
-ghost use Rattle.std.specs.Prelude.{◌≡◌, ◌/◌, T, length};
+ghost use Rattle.std.specs.Prelude.{◌≡◌, ◌+◌, ◌/◌, T, length};
 ghost use Rattle.cosine.specs.Kernels.{tabled, rising, falling};
+ghost use Rattle.cosine.specs.LengthLaws.{Length};
 ghost use Rattle.transform.specs.Analysis.{y, direct};
-ghost use Rattle.transform.specs.Stages.{Folded, Ready};
+ghost use Rattle.transform.specs.Stages.{Folded};
 
-// The block, windowed and folded. Long joints have a call of their own, for which the compiler knows the window's numbers.
-fn folded_12(left: u32, right: u32, x: &[i16], z: &mut [i32])
-    requires x_len { length x.now ≡ 12 }
-    requires z_len { length z.old ≡ 6 }
-    ensures folded { Folded 12 left right x.now z.new }
-    ensures ready { Ready 12 z.new }
+use blocks::{Block6, Block12, Block18, Block36, Block54, Block108};
+use level::Summing;
+use windows::{Joints, Window};
+
+// Up to this many samples of a hop long joints have a call of their own, for which the compiler knows the window's numbers.
+const FEW: usize = 6;
+
+// The block of N = 2 M samples, windowed and folded.
+#[inline(always)]
+fn folded<const N: usize, const M: usize>(
+    window: Window<M>,
+    joints: Joints,
+    x: &[i16],
+    z: &mut [i32],
+)
+    requires whole { Length N }
+    requires half { N ≡ M + M }
+    requires x_len { length x.now ≡ N }
+    requires z_len { length z.old ≡ M }
+    ensures { Folded N joints.left joints.right x.now z.new }
 {
-    if left == 0 {
-        if right == 0 {
-            let rise = tables::long_rise_12(left);
-            let fall = tables::long_fall_12(right);
-            transform::folded_block(12, left, right, &rise, &fall, x, z);
-            return;
-        }
+    if M <= FEW && joints.left == 0 && joints.right == 0 {
+        transform::folded_block(N, joints, window.rising(0), window.falling(0), x, z);
+    } else {
+        transform::folded_block(
+            N,
+            joints,
+            window.rising(joints.left),
+            window.falling(joints.right),
+            x,
+            z,
+        );
     }
-    let rise = tables::rise_12(left);
-    let fall = tables::fall_12(right);
-    transform::folded_block(12, left, right, &rise, &fall, x, z);
 }
 
-fn direct_12(left: u32, right: u32, x: &[i16], out: &mut [i32])
-    requires x_len { length x.now ≡ 12 }
-    requires out_len { length out.old ≡ 6 }
-    ensures { out.new ≡ direct 12 (y 12 (rising left 12) (falling right 12) x.now) }
+// The coefficients of a block of N = 2 M samples, with joints of these shapes.
+#[inline(always)]
+fn direct<const N: usize, const M: usize, B: Summing<M>>(
+    window: Window<M>,
+    joints: Joints,
+    x: &[i16],
+    out: &mut [i32],
+)
+    requires whole { Length N }
+    requires half { N ≡ M + M }
+    requires x_len { length x.now ≡ N }
+    requires out_len { length out.old ≡ M }
+    ensures { out.new ≡ direct N (y N (rising joints.left N) (falling joints.right N) x.now) }
 {
-    let rows_12 = tables::rows_12();
-    let mut z = [0i32; 6];
-    let mut t = [0i64; 6];
-    folded_12(left, right, x, &mut z);
-    transform::sums::plain_sums(12, &z, &rows_12, &mut t);
-    transform::direct_block(12, left, right, x, &z, &t, out);
+    let mut z = [0i32; M];
+    let mut t = [0i64; M];
+    folded::<N, M>(window, joints, x, &mut z);
+    B::block_sums(&z, &mut t);
+    transform::direct_of_doubled(N, joints, x, &z, &t, out);
 }
 
-fn direct_24(left: u32, right: u32, x: &[i16], out: &mut [i32])
-    requires x_len { length x.now ≡ 24 }
-    requires out_len { length out.old ≡ 12 }
-    ensures { out.new ≡ direct 24 (y 24 (rising left 24) (falling right 24) x.now) }
-{
-    let rise_24 = tables::rise_24(left);
-    let fall_24 = tables::fall_24(right);
-    let rows_24 = tables::rows_24();
-    let base_24 = tables::base_24();
-    let mut z = [0i32; 12];
-    let mut l = [0i32; 12];
-    let mut t = [0i64; 12];
-    transform::folded_block(24, left, right, &rise_24, &fall_24, x, &mut z);
-    transform::sums::sums(24, &z, &rows_24, &base_24, &mut l, &mut t);
-    transform::direct_block(24, left, right, x, &z, &t, out);
-}
-
-fn direct_36(left: u32, right: u32, x: &[i16], out: &mut [i32])
-    requires x_len { length x.now ≡ 36 }
-    requires out_len { length out.old ≡ 18 }
-    ensures { out.new ≡ direct 36 (y 36 (rising left 36) (falling right 36) x.now) }
-{
-    let rise_36 = tables::rise_36(left);
-    let fall_36 = tables::fall_36(right);
-    let mut z = [0i32; 18];
-    let mut t = [0i64; 18];
-    transform::folded_block(36, left, right, &rise_36, &fall_36, x, &mut z);
-    block_sums::sums_36(&z, &mut t);
-    transform::direct_block(36, left, right, x, &z, &t, out);
-}
-
-fn direct_72(left: u32, right: u32, x: &[i16], out: &mut [i32])
-    requires x_len { length x.now ≡ 72 }
-    requires out_len { length out.old ≡ 36 }
-    ensures { out.new ≡ direct 72 (y 72 (rising left 72) (falling right 72) x.now) }
-{
-    let rise_72 = tables::rise_72(left);
-    let fall_72 = tables::fall_72(right);
-    let mut z = [0i32; 36];
-    let mut t = [0i64; 36];
-    transform::folded_block(72, left, right, &rise_72, &fall_72, x, &mut z);
-    block_sums::sums_72(&z, &mut t);
-    transform::direct_block(72, left, right, x, &z, &t, out);
-}
-
-fn direct_108(left: u32, right: u32, x: &[i16], out: &mut [i32])
-    requires x_len { length x.now ≡ 108 }
-    requires out_len { length out.old ≡ 54 }
-    ensures { out.new ≡ direct 108 (y 108 (rising left 108) (falling right 108) x.now) }
-{
-    let rise_108 = tables::rise_108(left);
-    let fall_108 = tables::fall_108(right);
-    let mut z = [0i32; 54];
-    let mut t = [0i64; 54];
-    transform::folded_block(108, left, right, &rise_108, &fall_108, x, &mut z);
-    block_sums::sums_108(&z, &mut t);
-    transform::direct_block(108, left, right, x, &z, &t, out);
-}
-
-fn direct_216(left: u32, right: u32, x: &[i16], out: &mut [i32])
-    requires x_len { length x.now ≡ 216 }
-    requires out_len { length out.old ≡ 108 }
-    ensures { out.new ≡ direct 216 (y 216 (rising left 216) (falling right 216) x.now) }
-{
-    let rise_216 = tables::rise_216(left);
-    let fall_216 = tables::fall_216(right);
-    let mut z = [0i32; 108];
-    let mut t = [0i64; 108];
-    transform::folded_block(216, left, right, &rise_216, &fall_216, x, &mut z);
-    block_sums::sums_216(&z, &mut t);
-    transform::direct_block(216, left, right, x, &z, &t, out);
-}
-
-// The coefficients of a block by the direct route, for a tabled length and joints of these shapes: each length lends its own tables.
-pub fn analyse(n: usize, left: u32, right: u32, x: &[i16], out: &mut [i32])
+// The coefficients of a block by the direct route, for a tabled length and joints of these shapes.
+pub fn analyse(n: usize, joints: Joints, x: &[i16], out: &mut [i32])
     requires { T (tabled n) × (length x.now ≡ n) × (length out.old ≡ n / 2) }
-    ensures { out.new ≡ direct n (y n (rising left n) (falling right n) x.now) }
+    ensures { out.new ≡ direct n (y n (rising joints.left n) (falling joints.right n) x.now) }
 {
+    // Which of the lengths: `if` and not `match`, whose last arm is told nothing of the numbers left out.
     if n == 12 {
-        direct_12(left, right, x, out);
-        return;
+        direct::<12, 6, Block6>(windows::window_12(), joints, x, out);
+    } else if n == 24 {
+        direct::<24, 12, Block12>(windows::window_24(), joints, x, out);
+    } else if n == 36 {
+        direct::<36, 18, Block18>(windows::window_36(), joints, x, out);
+    } else if n == 72 {
+        direct::<72, 36, Block36>(windows::window_72(), joints, x, out);
+    } else if n == 108 {
+        direct::<108, 54, Block54>(windows::window_108(), joints, x, out);
+    } else {
+        direct::<216, 108, Block108>(windows::window_216(), joints, x, out);
     }
-    if n == 24 {
-        direct_24(left, right, x, out);
-        return;
-    }
-    if n == 36 {
-        direct_36(left, right, x, out);
-        return;
-    }
-    if n == 72 {
-        direct_72(left, right, x, out);
-        return;
-    }
-    if n == 108 {
-        direct_108(left, right, x, out);
-        return;
-    }
-    direct_216(left, right, x, out);
 }

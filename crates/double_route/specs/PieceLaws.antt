@@ -9,7 +9,7 @@ use Rattle.cosine.specs.Kernels.{short_lengths, short_tabled}
 use Rattle.cosine.specs.LengthLaws.{Length, tabled_length, of_short, short_is_tabled}
 use Rattle.split.specs.ShortRoute as R
 use Rattle.split.specs.OfferLaws.{offered-most}
-use Rattle.split.specs.RotationLaws.{limit}
+use Rattle.split.specs.TurnLaws.{limit}
 use Rattle.double_route.specs.Double.{offered, splits}
 
 -- ---- the lengths of a part: those that are split, and their last parts

@@ -10,7 +10,7 @@ use Rattle.arithmetic.specs.Lists.{at, table, Small}
 use Rattle.arithmetic.specs.ListLaws.{length-table, get_d_table, table_ext}
 use Rattle.cosine.specs.Kernels.{rising, falling}
 use Rattle.cosine.specs.LengthLaws.{Length, third-part}
-use Rattle.tables.specs.HalfLaws.{rise_list, fall_list}
+use Rattle.windows.specs.HalfLaws.{rise_list, fall_list}
 use Rattle.transform.specs.Analysis.{y, S}
 use Rattle.transform.specs.DirectLaws.{S_ext, y-lent}
 use Rattle.split.specs.ShortRoute.{r_b}

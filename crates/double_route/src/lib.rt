@@ -13,14 +13,15 @@ ghost use Rattle.split.specs.PartLaws.{Windowed};
 ghost use Rattle.double_route.specs.Double.{offered, scaled, double};
 ghost use Rattle.double_route.specs.PieceLaws.{Piece};
 
+use transform::rounding;
+use windows::Joints;
+
 // The lengths at which the double route is offered.
+#[tactic(auto, unfolding(crate::specs::Double::offered))]
 pub fn is_offered(n: usize) -> bool
     ensures { result ≡ offered n }
 {
-    if n == 36 {
-        return true;
-    }
-    n == 72
+    n == 36 || n == 72
 }
 
 // The sums of a part of y.len() inputs, doubled for each split in it. Its three parts have a third of its length: where that divides by 12 again, they go
@@ -61,15 +62,15 @@ pub fn analyse(y: &[i32], out: &mut [i32])
     let h = out.len();
     let mut s = [0i64; 36];
     split(y, &mut s[..h]);
-    sums::spectrum(&s[..h], out);
+    rounding::spectrum(&s[..h], 30, out);
 }
 
 // The coefficients of a block x, `block` being the block windowed.
-pub fn double_block(n: usize, left: u32, right: u32, x: &[i16], block: &[i32], out: &mut [i32])
+pub fn double_block(n: usize, joints: Joints, x: &[i16], block: &[i32], out: &mut [i32])
     requires offered { T (offered n) }
-    requires windowed { Windowed n left right x.now block.now }
+    requires windowed { Windowed n joints.left joints.right x.now block.now }
     requires out_len { length out.old ≡ n / 2 }
-    ensures { out.new ≡ double n (y n (rising left n) (falling right n) x.now) }
+    ensures { out.new ≡ double n (y n (rising joints.left n) (falling joints.right n) x.now) }
 {
     analyse(block, out);
 }

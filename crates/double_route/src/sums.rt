@@ -7,7 +7,9 @@ ghost use Rattle.double_route.specs.PieceLaws.{Piece};
 ghost use Rattle.double_route.specs.StepLaws.{Thirds, Ended};
 
 use crate::thirds;
-use split::parts;
+use blocks::{Block2, Block4};
+use level::WideSumming;
+use split::{Turns, parts};
 
 // B(k) + D(k), 2 A(k) and B(k) - D(k), with D(k) = G(h-1-k), h being the number of sums of each part.
 fn first_at(b: &[i64], g: &[i64], k: usize) -> i64
@@ -48,6 +50,7 @@ pub fn join(a: &[i64], b: &[i64], g: &[i64], out: &mut [i64])
     requires g_small { Small g.now (2 ^ 61) }
     ensures { out.new ≡ table (3 * length a.now) (joined (6 * length a.now) (at a.now) (at b.now) (at g.now)) }
 {
+    // by index: a walk over three places at a time would leave nothing known of them (`iter_mut` under an adapter)
     for k in 0..a.len() {
         out[3 * k] = first_at(b, g, k);
         out[3 * k + 1] = middle_at(a, k);
@@ -65,61 +68,29 @@ fn join_last(n: usize, y: &[i32], a: &[i64], b: &[i64], g: &[i64], out: &mut [i6
     join(a, b, g, out);
 }
 
-// The sums of three last parts, of four or eight inputs each, with the folded kernel of that length, and those of their part.
-fn sums_12(y: &[i32], wa: &[i32], wb: &[i32], wg: &[i32], out: &mut [i64])
-    requires thirds { Thirds 12 y.now wa.now wb.now wg.now }
-    requires out_len { length out.old ≡ 6 }
-    ensures { out.new ≡ table 6 (scaled 12 (at y.now)) }
+// The sums of three last parts of T inputs each, Q of each, and those of their part of N.
+#[inline(always)]
+fn last_of<const N: usize, const T: usize, const Q: usize, B: WideSumming<Q>>(
+    turns: Turns<N, T>,
+    y: &[i32],
+    out: &mut [i64],
+)
+    requires parts { (T ≡ N / 3) × (Q ≡ N / 6) × (N < 36) }
+    requires piece { Piece N y.now }
+    requires out_len { length out.old ≡ N / 2 }
+    ensures { out.new ≡ table (N / 2) (scaled N (at y.now)) }
 {
-    let rows = tables::thirds::rows_4();
-    let mut z = [0i32; 2];
-    let mut a = [0i64; 2];
-    let mut b = [0i64; 2];
-    let mut g = [0i64; 2];
-    parts::plain_sums(12, 0, y, wa, &rows, &mut z, &mut a);
-    parts::plain_sums(12, 1, y, wb, &rows, &mut z, &mut b);
-    parts::plain_sums(12, 2, y, wg, &rows, &mut z, &mut g);
-    join_last(12, y, &a, &b, &g, out);
-}
-
-fn last_12(y: &[i32], out: &mut [i64])
-    requires piece { Piece 12 y.now }
-    requires out_len { length out.old ≡ 6 }
-    ensures { out.new ≡ table 6 (scaled 12 (at y.now)) }
-{
-    let mut wa = [0i32; 4];
-    let mut wb = [0i32; 4];
-    let mut wg = [0i32; 4];
-    thirds::thirds_12(y, &mut wa, &mut wb, &mut wg);
-    sums_12(y, &wa, &wb, &wg, out);
-}
-
-fn sums_24(y: &[i32], wa: &[i32], wb: &[i32], wg: &[i32], out: &mut [i64])
-    requires thirds { Thirds 24 y.now wa.now wb.now wg.now }
-    requires out_len { length out.old ≡ 12 }
-    ensures { out.new ≡ table 12 (scaled 24 (at y.now)) }
-{
-    let rows = tables::thirds::rows_8();
-    let mut z = [0i32; 4];
-    let mut a = [0i64; 4];
-    let mut b = [0i64; 4];
-    let mut g = [0i64; 4];
-    parts::plain_sums(24, 0, y, wa, &rows, &mut z, &mut a);
-    parts::plain_sums(24, 1, y, wb, &rows, &mut z, &mut b);
-    parts::plain_sums(24, 2, y, wg, &rows, &mut z, &mut g);
-    join_last(24, y, &a, &b, &g, out);
-}
-
-fn last_24(y: &[i32], out: &mut [i64])
-    requires piece { Piece 24 y.now }
-    requires out_len { length out.old ≡ 12 }
-    ensures { out.new ≡ table 12 (scaled 24 (at y.now)) }
-{
-    let mut wa = [0i32; 8];
-    let mut wb = [0i32; 8];
-    let mut wg = [0i32; 8];
-    thirds::thirds_24(y, &mut wa, &mut wb, &mut wg);
-    sums_24(y, &wa, &wb, &wg, out);
+    let mut wa = [0i32; T];
+    let mut wb = [0i32; T];
+    let mut wg = [0i32; T];
+    let mut a = [0i64; Q];
+    let mut b = [0i64; Q];
+    let mut g = [0i64; Q];
+    thirds::thirds_of::<N, T>(turns, y, &mut wa, &mut wb, &mut wg);
+    parts::third_sums::<Q, B>(N, 0, y, &wa, &mut a);
+    parts::third_sums::<Q, B>(N, 1, y, &wb, &mut b);
+    parts::third_sums::<Q, B>(N, 2, y, &wg, &mut g);
+    join_last(N, y, &a, &b, &g, out);
 }
 
 // The sums of a part whose thirds are the last, by its length.
@@ -130,30 +101,12 @@ pub fn last(y: &[i32], out: &mut [i64])
     ensures { out.new ≡ table (length y.now / 2) (scaled (length y.now) (at y.now)) }
 {
     let n = y.len();
+    // Which of the lengths: `if` and not `match`, whose last arm is told nothing of the numbers left out.
     if n == 24 {
-        last_24(y, out);
+        last_of::<24, 8, 4, Block4>(split::turns_24(), y, out);
         return;
     }
     if n == 12 {
-        last_12(y, out);
-    }
-}
-
-// A sum of a part that is split twice, divided by 2^30 and rounded.
-fn coefficient(sum: i64) -> i32
-    requires { nat_abs sum ≤ 72 * 2 ^ 54 }
-    ensures { result ≡ rnd sum (2 ^ 30) }
-{
-    arithmetic::rnd_shift(sum, 30) as i32
-}
-
-// The coefficients from their sums.
-pub fn spectrum(t: &[i64], out: &mut [i32])
-    requires out_len { length out.old ≡ length t.now }
-    requires small { Small t.now (72 * 2 ^ 54) }
-    ensures { out.new ≡ table (length t.now) (λ k. rnd (at t.now k) (2 ^ 30)) }
-{
-    for k in 0..t.len() {
-        out[k] = coefficient(t[k]);
+        last_of::<12, 4, 2, Block2>(split::turns_12(), y, out);
     }
 }

@@ -15,12 +15,16 @@ use Rattle.checks.specs.Causes.{First, first_cause}
 use Rattle.checks.specs.Causes.First.{none, pass}
 use Rattle.checks.specs.CauseLaws.{first_is, same, spared, Passed, passed}
 use Rattle.floats.specs.Floats.{sixty_fourth, floats_of, plus_zero, highest_of, lowest_of}
-use Rattle.float_calls.specs.declared.Ends.{Ends}
+use Rattle.float_calls.specs.Answers.{Ends}
 use Rattle.float_calls.specs.FloatCalls.{block_causes, block_code, floats_code, floats_out, ends_causes, ends_code, pair_of, no_pair, ends_of, pair_code, pair_out}
 
 pub block-answer : (N : ℕ) (x : List ℤ) (room stated : ℕ) {k : ℕ} → First (block_causes N x room stated) k → k ≡ block_code N x room stated
 unfolding block_code
 block-answer N x room stated f = sym (first_is (block_causes N x room stated) f)
+
+-- a block has coefficients
+pub hop_some : (N : ℕ) → T (tabled N) → 0 < N / 2
+hop_some N t = omega (arith, (tabled_length N t).twelve, (tabled_length N t).some)
 
 -- ---- what a taken call tells: M coefficients, some of them, and room as stated
 pub record Sized (N : ℕ) (x : List ℤ) (room stated : ℕ) : Type 0 where

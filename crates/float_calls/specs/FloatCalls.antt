@@ -5,7 +5,7 @@ use Rattle.checks.specs.Limits.{in_range}
 use Rattle.checks.specs.Causes.{Cause, ◌unless◌, first_cause}
 use Rattle.floats.specs.Floats.{sixty_fourth, floats_of, plus_zero, highest_of, lowest_of}
 use Rattle.float_calls.specs.declared.Pair.{Pair}
-use Rattle.float_calls.specs.declared.Ends.{Ends}
+use Rattle.float_calls.specs.Answers.{Ends}
 
 -- of a call with room for floats: N is not tabled; there are not M coefficients; the room is not for as many floats as is stated; a coefficient is out of range
 unfoldable pub block_causes : ℕ → List ℤ → (room stated : ℕ) → List Cause

@@ -6,6 +6,7 @@ ghost use Rattle.std.specs.Prelude.{◌≡◌, ◌<◌, length};
 ghost use Rattle.floats.specs.Floats.{sixty_fourth, floats_of, larger, smaller, highest_of, lowest_of};
 
 // X / 64, exactly.
+#[tactic(auto, using(crate::specs::FloatLaws::divided))]
 pub fn sixty_fourth(x: i32) -> f64
     ensures { result ≡ sixty_fourth x }
 {
@@ -17,31 +18,19 @@ pub fn fill(x: &[i32], out: &mut [f64])
     requires { length out.old ≡ length x.now }
     ensures { out.new ≡ floats_of x.now }
 {
-    for k in 0..x.len() {
-        out[k] = sixty_fourth(x[k]);
+    for (k, float) in out.iter_mut().enumerate() {
+        *float = sixty_fourth(x[k]);
     }
 }
 
 // Whole numbers are compared, and no floats.
-fn larger(a: i32, b: i32) -> i32
-    ensures { result ≡ larger a b }
-{
-    if a < b { b } else { a }
-}
-
-fn smaller(a: i32, b: i32) -> i32
-    ensures { result ≡ smaller a b }
-{
-    if b < a { b } else { a }
-}
-
 pub fn highest(x: &[i32]) -> i32
     requires { 0 < length x.now }
     ensures { result ≡ highest_of x.now }
 {
     let mut best = x[0];
-    for k in 0..x.len() {
-        best = larger(best, x[k]);
+    for &value in x {
+        best = best.max(value);
     }
     best
 }
@@ -51,8 +40,8 @@ pub fn lowest(x: &[i32]) -> i32
     ensures { result ≡ lowest_of x.now }
 {
     let mut best = x[0];
-    for k in 0..x.len() {
-        best = smaller(best, x[k]);
+    for &value in x {
+        best = best.min(value);
     }
     best
 }

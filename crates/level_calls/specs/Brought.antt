@@ -1,8 +1,7 @@
 -- What the code holds of a table that was read, and of levels that are brought: steps, or coefficients, in front of room for those of the longest block: definitions.
 use Rattle.std.specs.Prelude.{◌≡◌, List, ℕ, ◌/◌, ◌≤◌, length, take, ℤ}
 use Rattle.levels.specs.Levels.{Stepping, levelled, restored, step_at}
-use Rattle.level_calls.specs.declared.Brought.{Brought}
-use Rattle.level_calls.specs.LevelCalls.{levels_by, back_by, brought_code}
+use Rattle.level_calls.specs.LevelCalls.{levels_by, back_by}
 
 -- the first M entries are the steps of a table that is taken
 pub record Each (N : ℕ) (text each : List ℕ) : Type 0 where
@@ -11,9 +10,3 @@ pub record Each (N : ℕ) (text each : List ℕ) : Type 0 where
   pub stepping : Stepping (take (N / 2) each)
   pub levels_are : (x : List ℤ) → levelled (step_at (take (N / 2) each)) (N / 2) x ≡ levels_by N text x
   pub back_is : (l : List ℤ) → restored (step_at (take (N / 2) each)) (N / 2) l ≡ back_by N text l
-
--- the first M entries are the coefficients that come back
-pub record IsBrought (N : ℕ) (text : List ℕ) (levels : List ℤ) (r : Brought) : Type 0 where
-  pub room : N / 2 ≤ length r.x
-  pub code_is : r.code ≡ brought_code N text levels
-  pub back_is : r.code ≡ 0 → take (N / 2) r.x ≡ back_by N text levels

@@ -14,29 +14,37 @@ use Rattle.cosine.specs.Kernels.{tabled}
 use Rattle.cosine.specs.LengthLaws.{tabled_length}
 use Rattle.stream.specs.declared.Stream.{Stream}
 use Rattle.analysis.specs.declared.Route.{Route}
+use Rattle.analysis.specs.Analysis.{offered}
+use Rattle.analysis.specs.AnalysisLaws.{offered-tabled}
 use Rattle.checks.specs.Limits.{in_range}
 use Rattle.checks.specs.LimitLaws.{small_range}
 use Rattle.checks.specs.Causes.{First, first_cause}
 use Rattle.checks.specs.CauseLaws.{first_is, leaves, passed, spared, Passed}
 use Rattle.stream_calls.specs.Streams as S
 use Rattle.stream_calls.specs.StreamLaws.{sound-tabled}
-use Rattle.state_calls.specs.States as C
+use Rattle.stream_calls.specs.States as C
 use Rattle.levels.specs.Levels as L
 use Rattle.levels.specs.Levels.{Stepping, level, back, levelled, restored}
 use Rattle.levels.specs.LevelLaws.{restored_long, restored_small}
-use Rattle.steps.specs.Table.{table_code, step_at}
-use Rattle.steps.specs.declared.TableRead.{TableRead}
-use Rattle.steps.specs.Pass.{IsRead}
-use Rattle.steps.specs.StepLaws.{step-least, step-most}
+use Rattle.steps.specs.Table.{Verdict, taken, verdict, table_code, step_at, coarsest}
+use Rattle.steps.specs.StepLaws.{step-least, step-most, coarsest-most}
 use Rattle.level_calls.specs.Brought.{Each}
 use Rattle.level_calls.specs.LevelCalls.{levels_by, back_by, quantise_causes, quantise_code, quantise_out, dequantise_causes, dequantise_code, dequantise_out, told_causes, told_code, told, distance, tell_code, tell_out, brought_causes, brought_code, step_causes, step_code, step_levels, step_out, state_causes, state_code, state_after, state_out}
 
 -- ---- a hop of a tabled length
-pub hop-some : (N : ℕ) → T (tabled N) → 0 < N / 2
-hop-some N t = omega (arith, (tabled_length N t).twelve, (tabled_length N t).some)
+pub hop_some : (N : ℕ) → T (tabled N) → 0 < N / 2
+hop_some N t = omega (arith, (tabled_length N t).twelve, (tabled_length N t).some)
 
-pub hop-most : (N : ℕ) → T (tabled N) → N / 2 ≤ 108
-hop-most N t = omega (arith, (tabled_length N t).most)
+pub hop_most : (N : ℕ) → T (tabled N) → N / 2 ≤ 108
+hop_most N t = omega (arith, (tabled_length N t).most)
+
+-- the largest step of a table that is taken, for a search
+pub coarse : (N : ℕ) → T (tabled N) → (text : List ℕ) → table_code (N / 2) text ≡ 0 → coarsest (N / 2) text ≤ 65536
+coarse N t text is = coarsest-most (N / 2) (hop_some N t) text is
+
+-- a route is offered at tabled lengths only
+pub offered_tabled : (route : Route) (N : ℕ) → T (offered route N) → T (tabled N)
+offered_tabled = offered-tabled
 
 -- ---- the steps of a table that is taken, in front of room for those of the longest block
 module _ (N : ℕ) (t : T (tabled N)) (text : List ℕ) (is : table_code (N / 2) text ≡ 0) (each : List ℕ) (given : each ≡ table (N / 2) (step_at (N / 2) text)) where
@@ -50,7 +58,7 @@ module _ (N : ℕ) (t : T (tabled N)) (text : List ℕ) (is : table_code (N / 2)
   each_step = record {
     each = λ k p.
         let q : k < N / 2 = omega (arith, each_long) in
-        rw (each_at k q) (record { least = step-least (N / 2) (hop-some N t) text is k q; most = step-most (N / 2) (hop-some N t) text is k q });
+        rw (each_at k q) (record { least = step-least (N / 2) (hop_some N t) text is k q; most = step-most (N / 2) (hop_some N t) text is k q });
   }
 
   each-levels : (x : List ℤ) → levelled (L.step_at each) (N / 2) x ≡ levels_by N text x
@@ -62,16 +70,15 @@ module _ (N : ℕ) (t : T (tabled N)) (text : List ℕ) (is : table_code (N / 2)
   each_back l = table_ext (N / 2) (λ k. back (L.step_at each k) (at l k)) (λ k. back (step_at (N / 2) text k) (at l k)) (λ k p. ap (λ (s : ℕ). back s (at l k)) (each_at k p))
 
 -- as `read` leaves them
-pub each_of : (N : ℕ) → T (tabled N) → (text : List ℕ) (r : TableRead) → IsRead (N / 2) text r → r.code ≡ 0 → Each N text r.each
-each_of N t text r read z =
-    let is = sym read.code_is ∙ z in
-    let front = read.steps_are is in
+pub each_of : (N : ℕ) → T (tabled N) → (text each : List ℕ) → taken ≡ verdict (N / 2) text → N / 2 ≤ length each → take (N / 2) each ≡ table (N / 2) (step_at (N / 2) text) → Each N text each
+each_of N t text each read room front =
+    let is : table_code (N / 2) text ≡ 0 = ap (λ (v : Verdict). v.code) (sym read) in
     record {
-      room = read.room;
-      long = each_long N t text is (take (N / 2) r.each) front;
-      stepping = each_step N t text is (take (N / 2) r.each) front;
-      levels_are = each-levels N t text is (take (N / 2) r.each) front;
-      back_is = each_back N t text is (take (N / 2) r.each) front;
+      room = room;
+      long = each_long N t text is (take (N / 2) each) front;
+      stepping = each_step N t text is (take (N / 2) each) front;
+      levels_are = each-levels N t text is (take (N / 2) each) front;
+      back_is = each_back N t text is (take (N / 2) each) front;
     }
 
 -- ---- a block's levels, and back
@@ -212,6 +219,25 @@ module _ (s : Stream) (number l r : ℕ) (text : List ℕ) (levels out : List �
   unfolding step_code step_causes S.admit_code S.admit_causes brought_code brought_causes first_cause tests behind
   brought z n = three (S.sound s) (eqb number s.expected) (S.fits l r s.shape) (behind t enough room) z ∙ two_stop t enough room n
 
+  -- the same of numbers that are tested
+  pub early_is : eqb (S.admit_code s number l r) 0 ≡ false → step_code s number l r text levels out ≡ S.admit_code s number l r
+  early_is e = early (tested e)
+    where
+      clash : true ≡ false → ⊥
+      clash e = let z : ◌≡◌ {A = ℕ} 0 1 = cc in omega arith
+
+      tested : {k : ℕ} → eqb k 0 ≡ false → k ≢ 0
+      tested {k} e z = clash (sym (eq-eqb k 0 z) ∙ e)
+
+  pub brought_is : S.admit_code s number l r ≡ 0 → eqb (brought_code s.n text levels) 0 ≡ false → step_code s number l r text levels out ≡ brought_code s.n text levels
+  brought_is z e = brought z (tested e)
+    where
+      clash : true ≡ false → ⊥
+      clash e = let z : ◌≡◌ {A = ℕ} 0 1 = cc in omega arith
+
+      tested : {k : ℕ} → eqb k 0 ≡ false → k ≢ 0
+      tested {k} e z = clash (sym (eq-eqb k 0 z) ∙ e)
+
   -- and then it answers as `step` on the coefficients that come back
   pub same_code : S.admit_code s number l r ≡ 0 → brought_code s.n text levels ≡ 0 → step_code s number l r text levels out ≡ S.step_code s number l r x out
   unfolding step_code step_causes S.admit_code S.admit_causes brought_code brought_causes first_cause S.step_code S.step_causes tests behind
@@ -307,3 +333,34 @@ module _ (state : List ℤ) (number l r : ℕ) (text : List ℕ) (levels out : L
       (state ≡ state_after state number l r text levels out) × (out ≡ state_out state number l r text levels out)
   unfolding state_after state_out
   state-refused {k} n e = (rw (e, ne_eqb k 0 n), rw (e, ne_eqb k 0 n))
+
+  -- the same of numbers that are tested
+  clash : true ≡ false → ⊥
+  clash e = let z : ◌≡◌ {A = ℕ} 0 1 = cc in omega arith
+
+  tested : {a b : ℕ} → eqb a b ≡ false → a ≢ b
+  tested {a} {b} e z = clash (sym (eq-eqb a b z) ∙ e)
+
+  pub early_in : eqb (C.admit_code state number l r) 0 ≡ false → state_code state number l r text levels out ≡ C.admit_code state number l r
+  early_in e = state-early (tested e)
+
+  pub brought_in : C.admit_code state number l r ≡ 0 → eqb (brought_code held.n text levels) 0 ≡ false → state_code state number l r text levels out ≡ brought_code held.n text levels
+  brought_in z e = state_brought z (tested e)
+
+  pub room_in : C.admit_code state number l r ≡ 0 → brought_code held.n text levels ≡ 0 → eqb (length out) (held.n / 2) ≡ false → state_code state number l r text levels out ≡ 2
+  room_in z q e = state-room z q (tested e)
+
+  pub taken_in : C.admit_code state number l r ≡ 0 → brought_code held.n text levels ≡ 0 → length out ≡ held.n / 2 → state_code state number l r text levels out ≡ 0
+  taken_in = state-taken
+
+  pub taken_step : C.admit_code state number l r ≡ 0 → brought_code held.n text levels ≡ 0 → length out ≡ held.n / 2 → C.step_code state number l r y out ≡ 0
+  taken_step z q e = (state-same z q).0 ∙ state-taken z q e
+
+  pub same_state : C.admit_code state number l r ≡ 0 → brought_code held.n text levels ≡ 0 → C.step_state state number l r y out ≡ state_after state number l r text levels out
+  same_state z q = (state-same z q).1.0
+
+  pub same_state_out : C.admit_code state number l r ≡ 0 → brought_code held.n text levels ≡ 0 → C.step_out state number l r y out ≡ state_out state number l r text levels out
+  same_state_out z q = (state-same z q).1.1
+
+  pub tabled_in : C.admit_code state number l r ≡ 0 → T (tabled held.n)
+  tabled_in z = admitted_tabled held number l r text levels out (state_admitted z).1

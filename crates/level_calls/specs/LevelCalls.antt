@@ -9,12 +9,12 @@ use Rattle.stream.specs.declared.Stream.{Stream}
 use Rattle.stream.specs.Steps.{next, hop}
 use Rattle.checks.specs.Limits.{in_range}
 use Rattle.checks.specs.Causes.{Cause, ◌unless◌, first_cause}
-use Rattle.stream_calls.specs.declared.Stepped.{Stepped}
+use Rattle.stream_calls.specs.Answers.{Stepped}
 use Rattle.stream_calls.specs.Streams.{sound, fits}
-use Rattle.state_calls.specs.States.{entries, stream_in, state_of}
+use Rattle.stream_calls.specs.States.{entries, stream_in, state_of}
 use Rattle.steps.specs.Table.{table_code, step_at, coarsest}
 use Rattle.levels.specs.Levels.{levelled, restored}
-use Rattle.level_calls.specs.declared.Told.{Told}
+use Rattle.level_calls.specs.Answers.{Told}
 
 -- the levels of M coefficients by a table, and the coefficients that come back from levels
 unfoldable pub levels_by : ℕ → List ℕ → List ℤ → List ℤ

@@ -1,3 +1,4 @@
+pub mod Answers
 pub mod LevelCalls
 pub mod Brought
 pub mod LevelCallLaws

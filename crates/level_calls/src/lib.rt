@@ -2,90 +2,88 @@
 // level in `levels`. No public call has a requires: any bytes, any numbers and any lengths may be handed in.
 #![tactic(auto)]
 
-ghost use Rattle.std.specs.Prelude.{◌≡◌, ◌/◌, T, length};
+ghost use Rattle.std.specs.Prelude.{◌≡◌, ◌/◌, ◌≤◌, IfErr, IfOk, OnOk, T, length, take};
 ghost use Rattle.cosine.specs.Kernels.{tabled};
 ghost use Rattle.analysis.specs.Analysis.{units_of};
 ghost use Rattle.steps.specs.Table.{table_code};
-ghost use Rattle.level_calls.specs.Brought.{IsBrought};
-ghost use Rattle.level_calls.specs.LevelCalls.{quantise_code, quantise_out, dequantise_code, dequantise_out, distance, told, tell_code, tell_out, tell_number, tell_number_out, step_levels, step_out, state_code, state_after, state_out};
+ghost use Rattle.refusals.specs.Answers.{code_of};
+ghost use Rattle.stream_calls.specs.Answers.{stepped_of};
+ghost use Rattle.level_calls.specs.Answers.{told_of};
+ghost use Rattle.level_calls.specs.Brought.{Each};
+ghost use Rattle.level_calls.specs.LevelCalls.{back_by, quantise_code, quantise_out, dequantise_code, dequantise_out, distance, told, tell_code, tell_out, tell_number, tell_number_out, brought_code, step_levels, step_out, state_code, state_after, state_out};
 
 use analysis::Route;
+use checks::{Offer, Refusal, check_coefficients, check_length, check_route, check_size};
 use stream::Stream;
-use stream_calls::Stepped;
+use stream_calls::{Head, Refused, admit};
 
 // Coefficients of the longest block.
 const LONGEST: usize = 108;
 
-// Room for the coefficients of a block.
+// Room for the coefficients of a block. Functions of their own: of an array that is made in the body the proof of its part did not close.
 fn spectrum_room() -> [i32; LONGEST]
     ensures { length result ≡ 108 }
 {
     [0; LONGEST]
 }
 
-// The level of each of M coefficients by its step: rnd(X / step). 1: n is not tabled. 9, 10, 11: the table is turned away. 2: a buffer's length is not M.
-// 3: a coefficient is out of range. Refused, `levels` is left alone.
-pub fn quantise(n: usize, table: &[u8], x: &[i32], levels: &mut [i32]) -> u32
-    ensures value { result ≡ quantise_code n table.now x.now levels.old }
+// Room for the steps of a block, of another type: no generic zero.
+fn step_room() -> [u32; LONGEST]
+    ensures { length result ≡ 108 }
+{
+    [0; LONGEST]
+}
+
+// The step of each coefficient by a table, in front of room for those of the longest block. Line (9), Gap (10), Overlap (11): the table is turned away.
+#[tactic(auto, using(crate::specs::LevelCallLaws::hop_some, crate::specs::LevelCallLaws::hop_most, crate::specs::LevelCallLaws::each_of))]
+fn read_steps(n: usize, table: &[u8]) -> Result<[u32; LONGEST], Refusal>
+    requires { T (tabled n) }
+    ensures code { code_of result ≡ table_code (n / 2) table.now }
+    ensures ok { IfOk result (λ each. Each n table.now each) }
+{
+    let mut each = step_room();
+    steps::read_into(table, n / 2, &mut each[..n / 2])?;
+    Ok(each)
+}
+
+/// The level of each of M = n / 2 coefficients by its step: rnd(X / step) (document 02, P8). Length (1): n is not tabled. Line (9), Gap (10), Overlap (11): the
+/// table is turned away. Size (2): a buffer's length is not M. Coefficient (3): one is out of range. The first of these is told. Refused, `levels` is left alone.
+#[tactic(auto, using(refusals::specs::AnswerLaws::number_some, checks::specs::LimitLaws::range_small), unfolding(crate::specs::LevelCalls::quantise_code, crate::specs::LevelCalls::quantise_causes, crate::specs::LevelCalls::quantise_out, checks::specs::Causes::first_cause))]
+pub fn quantise(n: usize, table: &[u8], x: &[i32], levels: &mut [i32]) -> Result<(), Refusal>
+    ensures code { code_of result ≡ quantise_code n table.now x.now levels.old }
     ensures levels_after { levels.new ≡ quantise_out n table.now x.now levels.old }
 {
-    if !cosine::is_tabled(n) {
-        return 1;
-    }
+    check_length(n)?;
     let m = n / 2;
-    let read = steps::read(table, m);
-    if read.code != 0 {
-        return read.code;
-    }
-    if x.len() != m {
-        return 2;
-    }
-    if levels.len() != m {
-        return 2;
-    }
-    if !checks::in_range(x, m) {
-        return 3;
-    }
-    let each = read.each;
+    let each = read_steps(n, table)?;
+    check_size(x.len(), m)?;
+    check_size(levels.len(), m)?;
+    check_coefficients(x, m)?;
     levels::fill_levels(x, &each[..m], levels);
-    0
+    Ok(())
 }
 
-// The coefficients that M levels come back as: level × step, clipped to what synthesis takes. 1, 9, 10, 11, 2 as above; any number is a level. Refused, `out` is
-// left alone.
-pub fn dequantise(n: usize, table: &[u8], levels: &[i32], out: &mut [i32]) -> u32
-    ensures value { result ≡ dequantise_code n table.now levels.now out.old }
+/// The coefficients that M levels come back as: level × step, clipped to what synthesis takes. Length (1), Line (9), Gap (10), Overlap (11), Size (2) as
+/// `quantise`; any number is a level. Refused, `out` is left alone.
+#[tactic(auto, using(refusals::specs::AnswerLaws::number_some), unfolding(crate::specs::LevelCalls::dequantise_code, crate::specs::LevelCalls::dequantise_causes, crate::specs::LevelCalls::dequantise_out, checks::specs::Causes::first_cause))]
+pub fn dequantise(n: usize, table: &[u8], levels: &[i32], out: &mut [i32]) -> Result<(), Refusal>
+    ensures code { code_of result ≡ dequantise_code n table.now levels.now out.old }
     ensures out_after { out.new ≡ dequantise_out n table.now levels.now out.old }
 {
-    if !cosine::is_tabled(n) {
-        return 1;
-    }
+    check_length(n)?;
     let m = n / 2;
-    let read = steps::read(table, m);
-    if read.code != 0 {
-        return read.code;
-    }
-    if levels.len() != m {
-        return 2;
-    }
-    if out.len() != m {
-        return 2;
-    }
-    let each = read.each;
+    let each = read_steps(n, table)?;
+    check_size(levels.len(), m)?;
+    check_size(out.len(), m)?;
     levels::fill_restored(levels, &each[..m], out);
-    0
-}
-
-// What `told_distance` answers: a number, and the distance, 0 beside a refusal.
-#[derive(Clone, Copy)]
-pub struct Told {
-    pub code: u32,
-    pub distance: u32,
+    Ok(())
 }
 
 // The units in which a route may lie away from the definition.
+#[tactic(auto, unfolding(analysis::specs::Analysis::units_of))]
 fn units(route: Route) -> u32
-    ensures { result ≡ units_of route }
+    ensures units { result ≡ units_of route }
+    ensures few { result ≤ 32 }
 {
     match route {
         Route::Direct => 0,
@@ -95,6 +93,7 @@ fn units(route: Route) -> u32
 }
 
 // The distance that a table tells, which is taken: Q is half its largest step, and the units are added to Q and not to the distance.
+#[tactic(auto, using(crate::specs::LevelCallLaws::hop_some, crate::specs::LevelCallLaws::hop_most, crate::specs::LevelCallLaws::coarse), unfolding(crate::specs::LevelCalls::distance, crate::specs::LevelCalls::half))]
 fn distance(route: Route, n: usize, table: &[u8]) -> u32
     requires { T (tabled n) × (table_code (n / 2) table.now ≡ 0) }
     ensures { result ≡ distance route n table.now }
@@ -103,158 +102,108 @@ fn distance(route: Route, n: usize, table: &[u8]) -> u32
     (q + units(route) + 8) / 16
 }
 
-// How far a returned sample may lie from its own, where the coefficients were stored by this table. 1: the route is not offered at n. 9, 10, 11: the table is
-// turned away.
-pub fn told_distance(route: Route, n: usize, table: &[u8]) -> Told
-    ensures { result ≡ told route n table.now }
+/// How far a returned sample may lie from its own where the coefficients were stored by this table (document 02, P8). Length (1): the
+/// route is not offered at n. Line (9), Gap (10), Overlap (11): the table is turned away.
+#[tactic(auto, using(refusals::specs::AnswerLaws::number_some, crate::specs::LevelCallLaws::offered_tabled), unfolding(crate::specs::LevelCalls::told, crate::specs::LevelCalls::told_code, crate::specs::LevelCalls::told_causes, checks::specs::Causes::first_cause))]
+pub fn told_distance(route: Route, n: usize, table: &[u8]) -> Result<u32, Refusal>
+    ensures answer { told_of result ≡ told route n table.now }
+    ensures taken { IfOk result (λ d. d ≡ distance route n table.now) }
 {
-    if !checks::is_offered(route, n) {
-        return Told {
-            code: 1,
-            distance: 0,
-        };
-    }
-    let read = steps::read(table, n / 2);
-    if read.code != 0 {
-        return Told {
-            code: read.code,
-            distance: 0,
-        };
-    }
-    let told = distance(route, n, table);
-    Told {
-        code: 0,
-        distance: told,
-    }
+    check_route(route, n)?;
+    read_steps(n, table)?;
+    Ok(distance(route, n, table))
 }
 
-// The told distance into room for one number, for C. 2: the room's length is another, behind every other cause. Refused, the room is left alone.
-fn tell_by(route: Route, n: usize, table: &[u8], room: &mut [u32]) -> u32
-    ensures value { result ≡ tell_code route n table.now room.old }
+// The told distance into room for one number, for C. Size (2): the room's length is another, behind every other cause. Refused, the room is left alone.
+#[tactic(auto, using(refusals::specs::AnswerLaws::number_some), unfolding(crate::specs::LevelCalls::told, crate::specs::LevelCalls::tell_code, crate::specs::LevelCalls::tell_out))]
+fn tell_by(route: Route, n: usize, table: &[u8], room: &mut [u32]) -> Result<(), Refusal>
+    ensures code { code_of result ≡ tell_code route n table.now room.old }
     ensures room_after { room.new ≡ tell_out route n table.now room.old }
 {
-    let told = told_distance(route, n, table);
-    if told.code != 0 {
-        return told.code;
-    }
-    if room.len() != 1 {
-        return 2;
-    }
-    room[0] = told.distance;
-    0
+    let told = told_distance(route, n, table)?;
+    check_size(room.len(), 1)?;
+    room[0] = told;
+    Ok(())
 }
 
-// The same, with the route by its number: 0 is direct, 1 short, 2 double, and any other is not offered.
-pub fn tell(number: u32, n: usize, table: &[u8], room: &mut [u32]) -> u32
-    ensures value { result ≡ tell_number number n table.now room.old }
+/// The told distance into room for one number, for C, with the route by its number: 0 is direct, 1 short, 2 double; any other is not offered, Length (1). Then
+/// the causes of `told_distance`, and behind them Size (2): the room's length is another. Refused, the room is left alone.
+#[tactic(auto, unfolding(crate::specs::LevelCalls::tell_number, crate::specs::LevelCalls::tell_number_out))]
+pub fn tell(number: u32, n: usize, table: &[u8], room: &mut [u32]) -> Result<(), Refusal>
+    ensures code { code_of result ≡ tell_number number n table.now room.old }
     ensures room_after { room.new ≡ tell_number_out number n table.now room.old }
 {
-    if number == 0 {
-        return tell_by(Route::Direct, n, table, room);
-    }
-    if number == 1 {
-        return tell_by(Route::Short, n, table, room);
-    }
-    if number == 2 {
-        return tell_by(Route::Double, n, table, room);
-    }
-    1
+    let Ok(route) = Route::try_from(number) else {
+        return Err(Refusal::Length);
+    };
+    tell_by(route, n, table, room)
 }
 
-// What a step on levels brings: what it is turned away with, the table's number or 2 for the length of its levels, or 0, and then the coefficients that come back in the
-// first M places.
-#[derive(Clone, Copy)]
-pub struct Brought {
-    pub code: u32,
-    pub x: [i32; LONGEST],
-}
-
-fn bring(n: usize, table: &[u8], levels: &[i32]) -> Brought
+// What a step on levels brings: the coefficients that come back, in front of room for those of the longest block. Line (9), Gap (10), Overlap (11): the table
+// is turned away. Size (2): there are not M levels.
+#[tactic(auto, using(refusals::specs::AnswerLaws::number_some, crate::specs::LevelCallLaws::hop_most, crate::specs::LevelCallLaws::back_long), unfolding(crate::specs::LevelCalls::brought_code, crate::specs::LevelCalls::brought_causes, checks::specs::Causes::first_cause))]
+fn bring(n: usize, table: &[u8], levels: &[i32]) -> Result<[i32; LONGEST], Refusal>
     requires { T (tabled n) }
-    ensures { IsBrought n table.now levels.now result }
+    ensures code { code_of result ≡ brought_code n table.now levels.now }
+    ensures back { IfOk result (λ x. take (n / 2) x ≡ back_by n table.now levels.now) }
+    ensures long { IfOk result (λ x. n / 2 ≡ length (take (n / 2) x)) }
 {
     let m = n / 2;
+    let each = read_steps(n, table)?;
+    check_size(levels.len(), m)?;
     let mut x = spectrum_room();
-    let read = steps::read(table, m);
-    if read.code != 0 {
-        return Brought {
-            code: read.code,
-            x: x,
-        };
-    }
-    if levels.len() != m {
-        return Brought { code: 2, x: x };
-    }
-    let each = read.each;
     levels::fill_restored(levels, &each[..m], &mut x[..m]);
-    Brought { code: 0, x: x }
+    Ok(x)
 }
 
-// One step of the synthesis stream on the M levels of a block, since recorders store levels: `step` on what `dequantise` gives. 4, 7, 8 as `step`, then 9, 10, 11
-// for the table, then 2. Refused, the stream comes back as it was, and `out` is left alone.
+/// One step of the synthesis stream on the M levels of a block, since recorders store levels: `step` on what `dequantise` gives (document 02, P8). Stream (4),
+/// Number (7), Shape (8) as `step`, then Line (9), Gap (10), Overlap (11) for the table, then Size (2). Refused, the stream comes back as it was, and `out` is
+/// left alone.
+#[tactic(auto, using(refusals::specs::AnswerLaws::number_some, crate::specs::LevelCallLaws::hop_most, crate::specs::LevelCallLaws::early_is, crate::specs::LevelCallLaws::brought_is, crate::specs::LevelCallLaws::same_step, crate::specs::LevelCallLaws::same_out), unfolding(crate::specs::LevelCalls::step_levels, crate::specs::LevelCalls::step_out))]
 pub fn step_levels(
     s: Stream,
-    number: u32,
-    left: u32,
-    right: u32,
+    offer: Offer,
     table: &[u8],
     levels: &[i32],
     out: &mut [i16],
-) -> Stepped
-    ensures value { result ≡ step_levels s number left right table.now levels.now out.old }
-    ensures out_after { out.new ≡ step_out s number left right table.now levels.now out.old }
+) -> Result<Stream, Refused>
+    ensures answer { stepped_of result ≡ step_levels s offer.number offer.joints.left offer.joints.right table.now levels.now out.old }
+    ensures refused { IfErr result (λ refused. refused.stream ≡ s) }
+    ensures out_after { out.new ≡ step_out s offer.number offer.joints.left offer.joints.right table.now levels.now out.old }
 {
-    let n = s.n;
-    let expected = s.expected;
-    let shape = s.shape;
-    let tail = s.tail;
-    let m = n / 2;
-    let early = stream_calls::admit(n, expected, shape, number, left, right, &tail);
-    if early != 0 {
-        return Stepped {
-            code: early,
-            stream: s,
-        };
+    let head = Head {
+        n: s.n,
+        expected: s.expected,
+        shape: s.shape,
+    };
+    if let Err(cause) = admit(head, &s.tail, offer) {
+        return Err(Refused { stream: s, cause });
     }
-    let brought = bring(n, table, levels);
-    if brought.code != 0 {
-        return Stepped {
-            code: brought.code,
-            stream: s,
-        };
+    let m = s.n / 2;
+    match bring(s.n, table, levels) {
+        Ok(x) => stream_calls::step(s, offer, &x[..m], out),
+        Err(cause) => Err(Refused { stream: s, cause }),
     }
-    let x = brought.x;
-    stream_calls::step(s, number, left, right, &x[..m], out)
 }
 
-// The same on the stream that a state holds, in place. 2: the state's length is another, before every other cause.
+/// The same on the stream that a state holds, in place. Size (2): the state's length is another, before every other cause. Refused, the state and `out` are left
+/// alone.
+#[tactic(auto, using(refusals::specs::AnswerLaws::number_some, crate::specs::LevelCallLaws::early_in, crate::specs::LevelCallLaws::brought_in, crate::specs::LevelCallLaws::room_in, crate::specs::LevelCallLaws::taken_in, crate::specs::LevelCallLaws::taken_step, crate::specs::LevelCallLaws::same_state, crate::specs::LevelCallLaws::same_state_out, crate::specs::LevelCallLaws::tabled_in), unfolding(crate::specs::LevelCalls::state_after, crate::specs::LevelCalls::state_out))]
 pub fn step_levels_in_place(
     state: &mut [i64],
-    number: u32,
-    left: u32,
-    right: u32,
+    offer: Offer,
     table: &[u8],
     levels: &[i32],
     out: &mut [i16],
-) -> u32
-    ensures value { result ≡ state_code state.old number left right table.now levels.now out.old }
-    ensures state_after { state.new ≡ state_after state.old number left right table.now levels.now out.old }
-    ensures out_after { out.new ≡ state_out state.old number left right table.now levels.now out.old }
+) -> Result<(), Refusal>
+    ensures code { code_of result ≡ state_code state.old offer.number offer.joints.left offer.joints.right table.now levels.now out.old }
+    ensures state_after { state.new ≡ state_after state.old offer.number offer.joints.left offer.joints.right table.now levels.now out.old }
+    ensures out_after { out.new ≡ state_out state.old offer.number offer.joints.left offer.joints.right table.now levels.now out.old }
 {
-    let early = state_calls::admit_in(state, number, left, right);
-    if early != 0 {
-        return early;
-    }
-    let n = state_calls::length_in(state);
-    let m = n / 2;
-    let brought = bring(n, table, levels);
-    if brought.code != 0 {
-        return brought.code;
-    }
-    if out.len() != n / 2 {
-        return 2;
-    }
-    let x = brought.x;
-    state_calls::advance_in(state, number, left, right, &x[..m], out);
-    0
+    stream_calls::state::admit_in(state, offer)?;
+    let n = stream_calls::state::length_in(state);
+    let x = bring(n, table, levels)?;
+    check_size(out.len(), n / 2)?;
+    stream_calls::state::advance_in(state, offer, &x[..n / 2], out);
+    Ok(())
 }

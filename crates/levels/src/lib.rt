@@ -1,5 +1,5 @@
 // A coefficient by its step, and back (document 02, P8), and whole blocks of them.
-// No function here is a public call: the calls on step tables call them, after every check, and `coarsest` calls `magnitude`.
+// No function here is a public call: the calls on step tables call them, after every check.
 #![tactic(auto)]
 
 ghost use Rattle.std.specs.Prelude.{◌≡◌, ◌+◌, ◌/◌, ◌^◌, ◌≤◌, length, pos, nat_abs, ◌*ℤ◌};
@@ -15,28 +15,15 @@ fn nearest(size: u32, step: u32) -> u32
     (size + step / 2) / step
 }
 
-// The size of a number.
-pub fn magnitude(x: i32) -> u32
-    requires { nat_abs x ≤ 2 ^ 29 }
-    ensures { result ≡ nat_abs x }
-{
-    if x < 0 {
-        return (-x) as u32;
-    }
-    x as u32
-}
-
 // The level of a coefficient: that of its size, with its sign. Divided before the sign is looked at, so that the compiler needs no branch for it.
+#[tactic(auto, using(crate::specs::LevelLaws::level_above, crate::specs::LevelLaws::level_below))]
 fn level(x: i32, step: u32) -> i32
     requires x_bound { nat_abs x ≤ 2 ^ 29 }
     requires step { Step step }
     ensures { result ≡ level step x }
 {
-    let l = nearest(magnitude(x), step) as i32;
-    if x < 0 {
-        return -l;
-    }
-    l
+    let l = nearest(x.unsigned_abs(), step) as i32;
+    if x < 0 { -l } else { l }
 }
 
 // A level times its step: any level, so up to 2^47.
@@ -51,16 +38,11 @@ fn product(l: i32, step: u32) -> i64
 fn clipped(z: i64) -> i32
     ensures { result ≡ clipped z }
 {
-    if z < -536870912 {
-        return -536870912;
-    }
-    if 536870912 < z {
-        return 536870912;
-    }
-    z as i32
+    z.clamp(-536870912, 536870912) as i32
 }
 
 // What comes back from a level.
+#[tactic(auto, unfolding(crate::specs::Levels::back))]
 fn back(l: i32, step: u32) -> i32
     requires { Step step }
     ensures { result ≡ back step l }
@@ -76,8 +58,8 @@ pub fn fill_levels(x: &[i32], steps: &[u32], out: &mut [i32])
     requires stepping { Stepping steps.now }
     ensures { out.new ≡ levelled (step_at steps.now) (length out.old) x.now }
 {
-    for k in 0..x.len() {
-        out[k] = level(x[k], steps[k]);
+    for (k, entry) in out.iter_mut().enumerate() {
+        *entry = level(x[k], steps[k]);
     }
 }
 
@@ -88,7 +70,7 @@ pub fn fill_restored(levels: &[i32], steps: &[u32], out: &mut [i32])
     requires stepping { Stepping steps.now }
     ensures { out.new ≡ restored (step_at steps.now) (length out.old) levels.now }
 {
-    for k in 0..levels.len() {
-        out[k] = back(levels[k], steps[k]);
+    for (k, coefficient) in out.iter_mut().enumerate() {
+        *coefficient = back(levels[k], steps[k]);
     }
 }

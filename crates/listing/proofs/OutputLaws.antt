@@ -5,7 +5,7 @@ use borrow.Author.Tests.{eq-eqb, ne_eqb}
 use Rattle.cosine.specs.LengthLaws.{tabled_length}
 use Rattle.text.specs.Buffers.{Put, Written}
 use Rattle.text.specs.BufferLaws.{put_then, put_length, written}
-use Rattle.listing.specs.declared.verdict.Verdict.{Verdict}
+use Rattle.listing.specs.Verdicts.{Verdict}
 use Rattle.listing.specs.Verdicts.{verdict}
 use Rattle.listing.specs.VerdictLaws.{Taken, verdict-taken}
 use Rattle.text.specs.Refusal.{refusal}

@@ -8,7 +8,7 @@ use Rattle.text.specs.Bytes.{ascii}
 use Rattle.text.specs.Number.{is_digit, leading_zero, is_natural, natural_from, natural, is_signed, is_number, value, digits_by, decimal, printed}
 use Rattle.text.specs.NumberLaws.{and_left, and_right}
 use Rattle.text.specs.Lines.{in_front, split, ended, unended, lines, remainder, fields, more, line}
-use Rattle.listing.specs.declared.verdict.Verdict.{Verdict}
+use Rattle.listing.specs.Verdicts.{Verdict}
 use Rattle.listing.specs.Hops.{is_sample, is_hop, samples}
 use Rattle.listing.specs.Verdicts.{refused, taken, by_hops, by_length, by_lines, verdict, hops_of, hop_of}
 use Rattle.text.specs.Refusal.{refusal}

@@ -17,7 +17,7 @@ use Rattle.text.specs.Bytes.{line_feed}
 use Rattle.text.specs.Number.{is_number, value}
 use Rattle.text.specs.Lines.{index_of, split, ended, unended, lines, remainder}
 use Rattle.text.specs.LineLaws.{part, lines-few, line-found, line-none, remainder-found, remainder-none}
-use Rattle.listing.specs.declared.verdict.Verdict.{Verdict}
+use Rattle.listing.specs.Verdicts.{Verdict}
 use Rattle.listing.specs.Hops.{digits, is_hop}
 use Rattle.listing.specs.Verdicts.{limit, refused, taken, by_hops, by_length, by_lines, verdict}
 

@@ -1,14 +1,23 @@
 -- The verdict on a listing: definitions. Document 01, 'Listing program', and causes 1, 5 and 6 of 'When the bank declines'.
-use Rattle.std.specs.Prelude.{cond, List, [], ◌∷◌, map, ℕ, suc, ◌+◌, ◌/◌, ltb, eqb, length, get_or, drop, ℤ, pos, negsuc}
+use Rattle.std.specs.Prelude.{cond, List, [], ◌∷◌, map, ℕ, suc, ◌+◌, ◌/◌, ltb, eqb, length, get_or, drop, ℤ, pos, negsuc, Result, Ok, Err}
 use Rattle.cosine.specs.Kernels.{tabled}
 use Rattle.text.specs.Number.{is_number, value}
 use Rattle.text.specs.Lines.{lines, remainder}
-use Rattle.listing.specs.declared.verdict.Verdict.{Verdict}
+use Rattle.listing.specs.declared.verdict.Listing.{Listing}
+use Rattle.listing.specs.declared.verdict.Fault.{Fault}
+use Rattle.listing.specs.declared.verdict.Fault.TheVariants.{Length, Form, Size}
 use Rattle.listing.specs.Hops.{digits, is_hop, samples}
 
 -- the most bytes of a listing
 abbrev pub limit : ℕ
 limit = 65536
+
+-- what a listing is: refused, with a number and a line, or of a length n and of some hops. A number that says nothing is 0
+pub record Verdict : Type 0 where
+  pub code : ℕ
+  pub line : ℕ
+  pub n : ℕ
+  pub hops : ℕ
 
 -- refused: the cause's number, and the line
 abbrev pub refused : ℕ → ℕ → Verdict
@@ -18,6 +27,23 @@ refused code at = record { code = code; line = at; n = 0; hops = 0 }
 abbrev pub taken : ℕ → ℕ → Verdict
 taken N H = record { code = 0; line = 0; n = N; hops = H }
 
+-- ---- what the code answers, as a verdict
+-- the number of a cause, and the line that it is found in, or 0 for none
+abbrev pub number_of : Fault → ℕ
+number_of Length = 1
+number_of (Form at) = 5
+number_of Size = 6
+
+abbrev pub line_of : Fault → ℕ
+line_of Length = 1
+line_of (Form at) = at
+line_of Size = 0
+
+abbrev pub verdict_of : Result Listing Fault → Verdict
+verdict_of (Ok listing) = taken listing.n listing.hops
+verdict_of (Err fault) = refused (number_of fault) (line_of fault)
+
+-- ---- what a text is
 -- behind line 1 and H hops, where line H + 2 stands: each further line is one hop, and nothing may stand behind the last line feed
 unfoldable pub by_hops : ℕ → ℕ → List (List ℕ) → List ℕ → Verdict
 by_hops N H [] rest = cond (eqb (length rest) 0) (taken N H) (refused 5 (H + 2))

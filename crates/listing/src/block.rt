@@ -1,5 +1,5 @@
 // The blocks of a taken listing, one after the other in one buffer. A block's second hop is the first of the next, so each line is read once.
-ghost use Rattle.std.specs.Prelude.{◌≡◌, ◌++◌, ◌+◌, length, drop, replicate, pos};
+ghost use Rattle.std.specs.Prelude.{◌≡◌, ◌++◌, ◌+◌, length, drop};
 ghost use Rattle.listing.specs.BlockLaws.{NextHop, hop_at, place_behind};
 
 use crate::hop::read_hop;
@@ -9,18 +9,7 @@ fn shift(m: usize, block: &mut [i16])
     requires { length block.old ≡ m + m }
     ensures { block.new ≡ drop m block.old ++ drop m block.old }
 {
-    for i in 0..m {
-        block[i] = block[m + i];
-    }
-}
-
-// A hop of zeros.
-fn clear(out: &mut [i16])
-    ensures { out.new ≡ replicate (length out.old) (pos 0) }
-{
-    for i in 0..out.len() {
-        out[i] = 0;
-    }
+    block.copy_within(m.., 0);
 }
 
 // Reads the hop whose line starts at a place, or zeros where no line is left, and answers where the next line starts.
@@ -30,7 +19,7 @@ fn read_next(input: &[u8], place: usize, out: &mut [i16]) -> usize
     ensures value { result ≡ place_behind input.now place }
 {
     if place == input.len() {
-        clear(out);
+        out.fill(0);
         return place;
     }
     read_hop(input, place, out)

@@ -1,45 +1,40 @@
 // A line that is a hop: its form, and its samples.
 ghost use Rattle.std.specs.Prelude.{◌≡◌, ◌≤◌, T, length};
-ghost use Rattle.text.specs.Lines.{line_at, next_line};
+ghost use Rattle.arithmetic.specs.Lists.{every};
+ghost use Rattle.text.specs.Lines.{fields, line_at, next_line};
 ghost use Rattle.listing.specs.Hops.{is_sample, is_hop, samples};
 
 use text::line::{COMMA, LINE_FEED, find};
-use text::number::{is_number, value};
-
-// The most digits of a number.
-pub const DIGITS: usize = 5;
+use text::number::{DIGITS, parse, value};
 
 // A number in the range of a sample.
 fn is_sample(field: &[u8]) -> bool
     ensures { result ≡ is_sample field.now }
 {
-    if !is_number(field, DIGITS) {
-        return false;
+    match parse(field, DIGITS) {
+        Some(v) => -32768 <= v && v <= 32767,
+        None => false,
     }
-    let v = value(field);
-    if -32768 <= v {
-        return v <= 32767;
-    }
-    false
+}
+
+fn count_fields(line: &[u8]) -> usize
+    ensures { result ≡ length (fields line.now) }
+{
+    line.split(|b| *b == COMMA).count()
+}
+
+fn all_samples(line: &[u8]) -> bool
+    ensures { result ≡ every is_sample (fields line.now) }
+{
+    line.split(|b| *b == COMMA).all(|field| is_sample(field))
 }
 
 // M samples parted by commas.
+#[tactic(auto, unfolding(crate::specs::Hops::is_hop))]
 pub fn is_hop(line: &[u8], m: usize) -> bool
     ensures { result ≡ is_hop m line.now }
 {
-    let mut at = 0;
-    let mut count = 0;
-    loop {
-        let end = find(line, at, COMMA);
-        if !is_sample(&line[at..end]) {
-            return false;
-        }
-        count += 1;
-        if end == line.len() {
-            return count == m;
-        }
-        at = end + 1;
-    }
+    count_fields(line) == m && all_samples(line)
 }
 
 // The samples of a line that is a hop.
@@ -48,12 +43,10 @@ fn read_samples(line: &[u8], out: &mut [i16])
     ensures { out.new ≡ samples line.now }
 {
     let mut at = 0;
-    let mut i = 0;
-    while i < out.len() {
+    for sample in out {
         let end = find(line, at, COMMA);
-        out[i] = value(&line[at..end]) as i16;
+        *sample = value(&line[at..end]) as i16;
         at = end + 1;
-        i += 1;
     }
 }
 

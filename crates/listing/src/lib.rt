@@ -9,22 +9,34 @@ mod print;
 pub mod verdict;
 
 ghost use Rattle.text.specs.Buffers.{Written};
+ghost use Rattle.text.specs.Outputs.{HasRoom, Puts};
+ghost use Rattle.listing.specs.SizeLaws.{room};
 ghost use Rattle.listing.specs.Listing.{listing};
 
-use text::refusal::put_refusal;
+use text::output::Output;
 
 // The most bytes that are printed.
 pub const ROOM: usize = 262144;
+
+// What is printed for an input.
+fn put_listing(input: &[u8], output: &mut Output)
+    requires { HasRoom room output.old }
+    ensures { Puts (listing input.now) output.old output.new }
+{
+    match verdict::verify(input) {
+        Ok(listing) => {
+            print::put_header(listing.n / 2, output);
+            bank::put_rows(input, listing, output);
+        }
+        Err(fault) => output.refusal(fault.number(), fault.line()),
+    }
+}
 
 // Writes what is printed for an input to the start of a buffer, and answers how many bytes that is.
 pub fn round_trip(input: &[u8], out: &mut [u8; ROOM]) -> usize
     ensures { Written (listing input.now) out.old out.new result }
 {
-    let v = verdict::verify(input);
-    let n = v.n;
-    if v.code != 0 {
-        return put_refusal(v.code, v.line, out, 0);
-    }
-    let at = print::put_header(n / 2, out, 0);
-    bank::put_rows(input, n, v.hops, out, at)
+    let mut output = Output { bytes: out, at: 0 };
+    put_listing(input, &mut output);
+    output.at
 }

@@ -8,13 +8,15 @@ ghost use Rattle.orders.specs.declared.Order.TheVariants.{ByFrequency};
 ghost use Rattle.orders.specs.Orders.{order_of, hops_in, place, part, tiled, other, reordered};
 
 // In which order: block after block, or coefficient after coefficient.
-#[derive(Clone, Copy)]
+#[derive(Clone, Copy, Debug, PartialEq, Eq)]
 pub enum Order {
     ByBlock,
     ByFrequency,
 }
 
-// For C: the order by its number, 0 by block and 1 by frequency ..
+// For C: the order by its number, 0 by block and 1 by frequency .. No TryFrom: a call is made for an unknown order too, so that 1, for n, comes before 2; it would want two
+// arms in each export.
+#[tactic(auto, unfolding(crate::specs::Orders::order_of))]
 pub fn numbered(order: u32) -> Order
     ensures { result ≡ order_of order }
 {
@@ -26,13 +28,16 @@ pub fn numbered(order: u32) -> Order
 }
 
 // .. and the hops: none where the number is another, so that every call over recordings turns it away where it tests the lengths.
+#[tactic(auto, unfolding(crate::specs::Orders::hops_in))]
 pub fn hops_in(order: u32, hops: usize) -> usize
     ensures { result ≡ hops_in order hops }
 {
     if order < 2 { hops } else { 0 }
 }
 
-// The place of coefficient k of block b, of `blocks` blocks of m.
+// The place of coefficient k of block b, of `blocks` blocks of m. Order, m and blocks stay arguments here and below: most callers pass them once, so that a struct of
+// them would be a name more and no call shorter.
+#[tactic(auto, unfolding(crate::specs::Orders::place))]
 pub fn place(order: Order, m: usize, blocks: usize, b: usize, k: usize) -> usize
     requires { (m ≤ 108) × (blocks ≤ 4096) × (b < blocks) × (k < m) }
     ensures { result ≡ place order m blocks b k }
@@ -49,8 +54,8 @@ pub fn gather(order: Order, blocks: usize, b: usize, x: &[i32], block: &mut [i32
     ensures { block.new ≡ part order (length block.old) blocks x.now b }
 {
     let m = block.len();
-    for k in 0..m {
-        block[k] = x[place(order, m, blocks, b, k)];
+    for (k, entry) in block.iter_mut().enumerate() {
+        *entry = x[place(order, m, blocks, b, k)];
     }
 }
 
@@ -88,10 +93,7 @@ pub fn tile() -> [i32; TILE * ROOM]
 pub fn at_most_a_tile(left: usize) -> usize
     ensures { result ≡ min left 8 }
 {
-    if left < TILE {
-        return left;
-    }
-    TILE
+    left.min(TILE)
 }
 
 // Coefficient k of each block of a tile, which has its blocks one after the other.
@@ -99,8 +101,8 @@ fn put_band(m: usize, k: usize, tile: &[i32], out: &mut [i32])
     requires { (m ≤ 108) × (k < m) × (length out.old ≤ 4096) × (length tile.now ≡ length out.old * m) }
     ensures { out.new ≡ table (length out.old) (λ j. at tile.now (j * m + k)) }
 {
-    for j in 0..out.len() {
-        out[j] = tile[j * m + k];
+    for (j, entry) in out.iter_mut().enumerate() {
+        *entry = tile[j * m + k];
     }
 }
 
@@ -109,6 +111,7 @@ pub fn scatter(m: usize, blocks: usize, first: usize, count: usize, tile: &[i32]
     requires { (m ≤ 108) × (blocks ≤ 4096) × (first + count ≤ blocks) × (length tile.now ≡ count * m) × (length out.old ≡ blocks * m) }
     ensures { out.new ≡ tiled ByFrequency m blocks first count tile.now out.old }
 {
+    // Of what chunks_exact_mut lends, a proof keeps the lengths alone: the band is found by its number.
     for k in 0..m {
         let place = k * blocks + first;
         put_band(m, k, tile, &mut out[place..place + count]);
@@ -116,6 +119,7 @@ pub fn scatter(m: usize, blocks: usize, first: usize, count: usize, tile: &[i32]
 }
 
 // The order that this one is not.
+#[tactic(auto, unfolding(crate::specs::Orders::other))]
 fn other(order: Order) -> Order
     ensures { result ≡ other order }
 {
@@ -131,6 +135,7 @@ fn move_block(to: Order, m: usize, blocks: usize, b: usize, x: &[i32], out: &mut
     ensures { out.new ≡ tiled to m blocks b 1 (part (other to) m blocks x.now b) out.old }
 {
     let from = other(to);
+    // By number: in either list a coefficient has its place by it.
     for k in 0..m {
         out[place(to, m, blocks, b, k)] = x[place(from, m, blocks, b, k)];
     }
@@ -141,6 +146,7 @@ pub fn reorder(to: Order, m: usize, blocks: usize, x: &[i32], out: &mut [i32])
     requires { (m ≤ 108) × (blocks ≤ 4096) × (length x.now ≡ blocks * m) × (length out.old ≡ blocks * m) }
     ensures { out.new ≡ reordered to m blocks x.now }
 {
+    // By number: a block's places by frequency lie all over a list, so that no part of it is the block's.
     for b in 0..blocks {
         move_block(to, m, blocks, b, x, out);
     }

@@ -7,7 +7,7 @@ use Rattle.cosine.specs.Kernels.{tabled}
 use Rattle.orders.specs.declared.Order.{Order}
 use Rattle.checks.specs.Causes.{First}
 use Rattle.checks.specs.CauseLaws.{first_is, leaves, spared, Passed, passed}
-use Rattle.checks.specs.LimitLaws.{range_small}
+use Rattle.checks.specs.LimitLaws.{places_few, block_sixes, range_small}
 use Rattle.checks.specs.Limits.{counted}
 use Rattle.page.specs.Page.{page_of, page_causes, page_code, page_out}
 
@@ -34,3 +34,6 @@ page_facts N H x out h =
     let p = passed (page_causes N H x out) tt h in
     let long : length x ≡ m = eqb→eq (length x) m p.1.1.0 in
     record { length_is = p.0; hops = is_true p.1.0; long = long; range = range_small x m long (is_true p.1.1.1.1.0) }
+
+-- for a search: what the checks leave of the sizes
+pub ruleset page_sizes = (places_few, block_sixes)

@@ -52,6 +52,13 @@ unfolding margin
 margin-other b zero n = absurd (n refl)
 margin-other b (suc j) n = refl
 
+-- no text in eight columns: eight blanks
+pub blank_margin : replicate 8 blank ≡ aligned 8 []
+unfolding aligned
+blank_margin = sym (append-nil (replicate 8 blank))
+
+pub ruleset margins = (block-most, margin-first, margin-other, blank_margin)
+
 pub margin_long : (b j : ℕ) → b ≤ 4095 → length (margin b j) ≡ 8
 unfolding margin
 margin_long b zero p = aligned_long 8 (decimal b) (block-most b p)

@@ -16,13 +16,14 @@ use text::line::LINE_FEED;
 pub const LINE: usize = 81;
 
 // Numbers of a line, the columns of one, and those of the margin.
-const NUMBERS: usize = 6;
+pub const NUMBERS: usize = 6;
 
 const COLUMNS: usize = 12;
 
 const MARGIN: usize = 8;
 
 // The margin of line j of block b: the block's number on its first line, and blanks on the others.
+#[tactic(auto, using(crate::specs::PageLaws::margins), unfolding(text::specs::Number::printed))]
 fn put_margin(b: usize, j: usize, out: &mut [u8])
     requires { (b ≤ 4095) × (length out.old ≡ 8) }
     ensures { out.new ≡ margin b j }
@@ -39,6 +40,7 @@ fn put_numbers(x: &[i32], out: &mut [u8])
     requires { (length x.now ≡ 6) × Small x.now (2 ^ 29) × (length out.old ≡ 72) }
     ensures { out.new ≡ joined 6 (λ i. aligned 12 (printed (at x.now i))) }
 {
+    // By index: `chunks_exact_mut` does not say what the columns hold afterwards, so that they are found by i, as the numbers are.
     for i in 0..NUMBERS {
         let place = i * COLUMNS;
         put_aligned(x[i] as i64, &mut out[place..place + COLUMNS]);
@@ -60,6 +62,7 @@ fn put_block(b: usize, lines: usize, x: &[i32], out: &mut [u8])
     requires { (b ≤ 4095) × (lines ≤ 18) × (length x.now ≡ lines * 6) × Small x.now (2 ^ 29) × (length out.old ≡ lines * 81) }
     ensures { out.new ≡ joined lines (λ j. columns b x.now j ++ (line_feed ∷ [])) }
 {
+    // By index, as above; with `x.chunks_exact(NUMBERS).enumerate()` the loop's proof did not close, at the goal that the count fits.
     for j in 0..lines {
         let at = j * NUMBERS;
         let place = j * LINE;
@@ -103,6 +106,7 @@ pub fn put_page(order: Order, n: usize, blocks: usize, x: &[i32], out: &mut [u8]
     let m = n / 2;
     let size = m / NUMBERS * LINE;
     let mut room = orders::room();
+    // By index: in either order a block is found by its number, which is printed too.
     for b in 0..blocks {
         let place = b * size;
         put_part(

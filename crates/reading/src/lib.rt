@@ -17,6 +17,7 @@ pub fn fill<R: Read>(input: &mut R, buffer: &mut [u8]) -> io::Result<usize>
     ensures failed { OnErr result ((n : ℕ) × (n ≤ length buffer.new) × Consumes (R.remaining input.old) (R.remaining input.new) (take n buffer.new)) }
 {
     let mut n = 0;
+    // A loop over `read`: read_exact says nothing of how many bytes came, and read_to_end allocates.
     while n < buffer.len() {
         let more = input.read(&mut buffer[n..])?;
         if more == 0 {

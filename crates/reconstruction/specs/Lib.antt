@@ -5,3 +5,5 @@ pub mod JointLaws
 pub mod ReturnLaws
 pub mod DistanceLaws
 pub mod ShareLaws
+pub mod Returned
+pub mod Stages

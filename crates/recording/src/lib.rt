@@ -1,6 +1,7 @@
 // Whole recordings, block by block, their coefficients in either order.
 // No function here is a public call: the public calls over recordings call `analyse` and `synthesise`, under their requires, after every check, `coarsest` calls
 // `blocks_from`, and `listing` begins with `silent_block`.
+// Route, N, the hops and the samples are handed on one by one: so other crates call `analyse`, `synthesise` and `blocks_from`, which docs/DECISIONS.md names.
 #![tactic(auto)]
 
 ghost use Rattle.std.specs.Prelude.{◌≡◌, ◌+◌, ◌*◌, ◌/◌, ◌^◌, ◌≤◌, ◌<◌, T, length, replicate, pos};
@@ -27,24 +28,14 @@ pub fn silent_block() -> [i16; BLOCK]
     [0; BLOCK]
 }
 
-// Copies a hop to a place of its own length.
-fn copy(hop: &[i16], out: &mut [i16])
-    requires { length out.old ≡ length hop.now }
-    ensures { out.new ≡ hop.now }
-{
-    for i in 0..hop.len() {
-        out[i] = hop[i];
-    }
-}
-
 // The coefficients of a block of one hop, which stands at place `at`, and of zeros: the first block and the last are such, in a block of their own.
 fn edge_block(route: Route, n: usize, at: usize, hop: &[i16], out: &mut [i32])
     requires { T (offered route n) × (at ≤ n / 2) × (length hop.now ≡ n / 2) × (length out.old ≡ n / 2) }
     ensures { out.new ≡ coefficients route n 0 0 (edge n at hop.now) }
 {
     let mut block = silent_block();
-    copy(hop, &mut block[at..at + n / 2]);
-    analysis::analyse_block(route, n, 0, 0, &block[..n], out);
+    block[at..at + n / 2].copy_from_slice(hop);
+    analysis::analyse_block(route, n, windows::LONG, &block[..n], out);
 }
 
 // The coefficients of block b of a recording: it covers hops b - 1 and b, and a hop outside the recording is zeros. A block that stands in the samples is read in place.
@@ -63,7 +54,7 @@ fn block_at(route: Route, n: usize, hops: usize, x: &[i16], b: usize, out: &mut 
         edge_block(route, n, 0, &x[from..], out);
         return;
     }
-    analysis::analyse_block(route, n, 0, 0, &x[from..from + n], out);
+    analysis::analyse_block(route, n, windows::LONG, &x[from..from + n], out);
 }
 
 // The coefficients of `count` blocks of a recording from `first` on, block after block.
@@ -81,6 +72,7 @@ pub fn blocks_from(
     ensures { out.new ≡ joined count (λ j. coefficients route n 0 0 (block n x.now (first + j))) }
 {
     let m = n / 2;
+    // Of what chunks_exact_mut lends, a proof keeps the lengths alone: here, and in `synthesise`, a part is found by its number.
     for j in 0..count {
         let at = j * m;
         block_at(route, n, hops, x, first + j, &mut out[at..at + m]);
@@ -95,13 +87,11 @@ fn analyse_by_frequency(route: Route, n: usize, hops: usize, x: &[i16], out: &mu
     let m = n / 2;
     let blocks = hops + 1;
     let mut tile = orders::tile();
-    let mut b = 0;
-    while b < blocks {
+    for b in (0..blocks).step_by(orders::TILE) {
         let count = orders::at_most_a_tile(blocks - b);
         let size = count * m;
         blocks_from(route, n, hops, x, b, count, &mut tile[..size]);
         orders::scatter(m, blocks, b, count, &tile[..size], out);
-        b += count;
     }
 }
 
@@ -136,11 +126,11 @@ fn advance(
     match order {
         Order::ByBlock => {
             let first = b * m;
-            synthesis::advance_tail(n, 0, 0, &x[first..first + m], tail, out);
+            synthesis::advance_tail(n, windows::LONG, &x[first..first + m], tail, out);
         }
         Order::ByFrequency => {
             orders::gather(order, blocks, b, x, room);
-            synthesis::advance_tail(n, 0, 0, room, tail, out);
+            synthesis::advance_tail(n, windows::LONG, room, tail, out);
         }
     }
 }

@@ -9,9 +9,10 @@ use Rattle.orders.specs.declared.Order.{Order}
 use Rattle.orders.specs.Orders.{reordered}
 use Rattle.recording.specs.Recordings.{analysis, synthesis}
 use Rattle.analysis.specs.Analysis.{offered}
+use Rattle.analysis.specs.AnalysisLaws.{offered-tabled}
 use Rattle.checks.specs.Causes.{First}
 use Rattle.checks.specs.CauseLaws.{first_is, leaves, spared, Passed, passed}
-use Rattle.checks.specs.LimitLaws.{range_small}
+use Rattle.checks.specs.LimitLaws.{places_few, block_sixes, range_small}
 use Rattle.checks.specs.Limits.{counted}
 use Rattle.recording_calls.specs.Recordings.{recorded_causes, recorded_code, recorded_out, played_causes, played_code, played_out, reorder_causes, reorder_code, reorder_out, shaped}
 
@@ -108,3 +109,8 @@ reorder_facts N H x out h =
 pub shaped_of : (N : ℕ) → T (tabled N) → (H : ℕ) → counted H ≡ true → (long : ℕ) → long ≡ H * (N / 2) → shaped N H long ≡ true
 unfolding shaped
 shaped_of N t H b long e = let a : tabled N ≡ true = is_true t in rw (a, b, eq-eqb long (H * (N / 2)) e)
+
+-- ---- for a search: what the checks leave of the sizes
+pub ruleset recorded_sizes = (offered-tabled, places_few)
+
+pub ruleset played_sizes = (places_few, block_sixes)

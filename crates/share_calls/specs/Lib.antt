@@ -1,3 +1,5 @@
+pub mod Answers
+pub mod Changes
 pub mod ShareCalls
 pub mod ShareCallLaws
 pub mod RecordingShares

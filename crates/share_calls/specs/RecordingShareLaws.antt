@@ -1,21 +1,43 @@
 -- Laws of the calls on shares over recordings: what they answer by their causes.
-use Rattle.std.specs.Prelude.{◌≡◌, ◌≢◌, true, false, List, ℕ, ◌+◌, ◌*◌, ◌/◌, ◌^◌, ◌<◌, T, length, ℤ}
-use Rattle.std.proofs.Common.{arith}
+use Rattle.std.specs.Prelude.{◌≡◌, ◌≢◌, true, false, cond, List, ◌++◌, ℕ, eqb, ◌+◌, ◌-◌, ◌*◌, ◌/◌, ◌^◌, ◌≤◌, ◌<◌, T, length, take, replicate, ℤ, pos}
+use Rattle.std.proofs.Common.{ap, ◌∙◌, arith}
 use Rattle.std.proofs.Math.Dec.{eqb→eq, ltb→lt}
 use Rattle.arithmetic.specs.Lists.{every, Small}
 use Rattle.arithmetic.specs.TestLaws.{both_left, both_right, is_T, is_true}
 use Rattle.cosine.specs.Kernels.{tabled}
+use Rattle.cosine.specs.LengthLaws.{tabled_length}
 use Rattle.orders.specs.declared.Order.{Order}
+use Rattle.orders.specs.Orders.{part}
+use Rattle.orders.specs.OrderLaws.{part_long, part_small, front_part}
+use Rattle.orders.specs.OrderLaws as O
 use Rattle.checks.specs.Limits.{in_range, counted}
 use Rattle.checks.specs.LimitLaws.{range_small}
 use Rattle.checks.specs.Causes.{Cause}
 use Rattle.checks.specs.CauseLaws.{spared, Passed, passed}
-use Rattle.shares.specs.declared.Named.{Named}
-use Rattle.shares.specs.Shares.{largest_share}
+use Rattle.shares.specs.Shares.{Named, largest_share}
 use Rattle.shares.specs.LargestLaws.{named-first}
 use Rattle.share_calls.specs.ShareCalls.{answered_with, refused_with, numbers_of}
-use Rattle.share_calls.specs.ShareCallLaws.{some, answer_sized, answer-ranged, answer-taken, room_sized, room_long, room-ranged, room-taken}
+use Rattle.share_calls.specs.ShareCallLaws.{some, answer_sized, answer-ranged, answer-taken, room_sized, room_long, room-ranged, room-taken, sized_first, then_ranged, sized_before_room, then_room}
 use Rattle.share_calls.specs.RecordingShares.{share_at, numbered_from, place_causes, place_code, both_ranged, recording_share_code, recording_share, recording_name_code, recording_name_out}
+
+-- ---- a block in front of room for the longest
+pub record Gathered (M : ℕ) (block room : List ℤ) : Type 0 where
+  pub front : take M room ≡ block
+  pub long : length (take M room) ≡ M
+  pub fits : M ≤ length room
+  pub small : Small (take M room) (2 ^ 29)
+
+pub gathered_block : (order : Order) (N H : ℕ) (x : List ℤ) (b : ℕ) (room : List ℤ) → T (tabled N) → b ≤ H → length x ≡ (H + 1) * (N / 2) → Small x (2 ^ 29) →
+    room ≡ part order (N / 2) (H + 1) x b ++ replicate (108 - N / 2) (pos 0) → Gathered (N / 2) (part order (N / 2) (H + 1) x b) room
+gathered_block order N H x b room t p l r e =
+    let h : N / 2 ≤ 108 = omega (arith, (tabled_length N t).most) in
+    let f : take (N / 2) room ≡ part order (N / 2) (H + 1) x b = front_part (N / 2) (H + 1) order x b h room e in
+    record {
+      front = f;
+      long = ap length f ∙ part_long (N / 2) (H + 1) order x b;
+      fits = omega (arith, h, O.room_long (N / 2) (H + 1) order x b h room e);
+      small = rw f (part_small (N / 2) (H + 1) order x l (2 ^ 29) r b (omega arith));
+    }
 
 module _ (N H : ℕ) (X X' : List ℤ) (hop place : ℕ) where
   abbrev tests : List Cause
@@ -24,6 +46,23 @@ module _ (N H : ℕ) (X X' : List ℤ) (hop place : ℕ) where
   tested : T (every some tests)
   unfolding place_causes every
   tested = tt
+
+  -- of a number that is tested
+  pub share_placed : eqb (place_code N H X X' hop place) 0 ≡ false → recording_share_code N H X X' hop place ≡ place_code N H X X' hop place
+  unfolding recording_share_code place_code
+  share_placed = sized_first tests tested (both_ranged N H X X')
+
+  pub share_rest : place_code N H X X' hop place ≡ 0 → recording_share_code N H X X' hop place ≡ cond (both_ranged N H X X') 0 3
+  unfolding recording_share_code place_code
+  share_rest = then_ranged tests tested (both_ranged N H X X')
+
+  pub name_placed : (named : List ℕ) → eqb (place_code N H X X' hop place) 0 ≡ false → recording_name_code N H X X' hop place named ≡ place_code N H X X' hop place
+  unfolding recording_name_code place_code
+  name_placed named = sized_before_room tests tested (both_ranged N H X X') (eqb (length named) 3)
+
+  pub name_rest : (named : List ℕ) → place_code N H X X' hop place ≡ 0 → recording_name_code N H X X' hop place named ≡ cond (eqb (length named) 3) (cond (both_ranged N H X X') 0 3) 2
+  unfolding recording_name_code place_code
+  name_rest named = then_room tests tested (both_ranged N H X X') (eqb (length named) 3)
 
   module _ (order : Order) where
     abbrev found : Named

@@ -6,9 +6,8 @@ use Rattle.orders.specs.declared.Order.{Order}
 use Rattle.orders.specs.Orders.{part}
 use Rattle.checks.specs.Limits.{in_range, counted}
 use Rattle.checks.specs.Causes.{Cause, ◌unless◌, first_cause}
-use Rattle.shares.specs.declared.Named.{Named}
-use Rattle.shares.specs.Shares.{largest_share}
-use Rattle.share_calls.specs.declared.Share.{Share}
+use Rattle.shares.specs.Shares.{Named, largest_share}
+use Rattle.share_calls.specs.Answers.{Share}
 use Rattle.share_calls.specs.ShareCalls.{answered_with, refused_with, numbers_of}
 
 -- blocks h and h + 1 cover hop h of the recording; what is named between them, with a long joint, and then the block by its number in the recording

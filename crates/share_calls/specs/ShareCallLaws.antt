@@ -1,6 +1,6 @@
 -- Laws of the calls on shares: what they answer by their causes.
 use Rattle.std.specs.Prelude.{◌≡◌, refl, ◌≢◌, Bool, true, false, not, cond, List, [], ◌∷◌, ◌++◌, ℕ, ◌/◌, ◌^◌, ◌≤◌, ◌<◌, T, length, ℤ}
-use Rattle.std.proofs.Common.{eq-eqb, ne_eqb}
+use Rattle.std.proofs.Common.{◌∙◌, arith, eq-eqb, ne_eqb}
 use Rattle.std.proofs.Math.Dec.{eqb, eqb→eq, leb→le, ltb→lt}
 use Rattle.arithmetic.specs.Lists.{every, Small}
 use Rattle.arithmetic.specs.TestLaws.{both_left, both_right, is_T, is_true}
@@ -9,9 +9,9 @@ use Rattle.checks.specs.Limits.{in_range}
 use Rattle.checks.specs.LimitLaws.{range_small}
 use Rattle.checks.specs.Causes.{Cause, ◌unless◌, first_cause}
 use Rattle.checks.specs.CauseLaws.{spared, Passed, passed}
-use Rattle.shares.specs.declared.Named.{Named}
-use Rattle.shares.specs.Shares.{largest_share}
-use Rattle.share_calls.specs.declared.Share.{Share}
+use Rattle.shares.specs.Shares.{Named, largest_share}
+use Rattle.shares.specs.LargestLaws.{named-first}
+use Rattle.share_calls.specs.Answers.{Share}
 use Rattle.share_calls.specs.ShareCalls.{size_causes, size_code, ranged, share_causes, share_code, answered_with, refused_with, share_answer, name_causes, name_code, numbers_of, name_out}
 
 -- ---- causes behind causes, none of which has the number 0
@@ -80,6 +80,27 @@ module _ (sizes : List Cause) (t : T (every some sizes)) (inside : Bool) (found 
     pub room-taken : size ≡ 0 → length named ≡ 3 → inside ≡ true → (0 ≡ number) × (numbers_of found ≡ room)
     room-taken z l r = let e = eq-eqb (length named) 3 l in (rw (number_is, z, e, r), rw (number_is, z, e, r))
 
+-- ---- the same of a number that is tested
+module _ (sizes : List Cause) (t : T (every some sizes)) (inside : Bool) where
+  pub sized_first : eqb (first_cause sizes) 0 ≡ false → first_cause (sizes ++ (3 unless inside ∷ [])) ≡ first_cause sizes
+  sized_first e = behind sizes (3 unless inside ∷ []) t ∙ rw e
+
+  pub then_ranged : first_cause sizes ≡ 0 → first_cause (sizes ++ (3 unless inside ∷ [])) ≡ cond inside 0 3
+  unfolding first_cause
+  then_ranged e = behind sizes (3 unless inside ∷ []) t ∙ rw e
+
+  pub sized_before_room : (long : Bool) → eqb (first_cause sizes) 0 ≡ false → first_cause (sizes ++ (2 unless long ∷ 3 unless inside ∷ [])) ≡ first_cause sizes
+  sized_before_room long e = behind sizes (2 unless long ∷ 3 unless inside ∷ []) t ∙ rw e
+
+  pub then_room : (long : Bool) → first_cause sizes ≡ 0 → first_cause (sizes ++ (2 unless long ∷ 3 unless inside ∷ [])) ≡ cond long (cond inside 0 3) 2
+  unfolding first_cause
+  then_room long e = behind sizes (2 unless long ∷ 3 unless inside ∷ []) t ∙ rw e
+
+-- one of the two blocks is named
+pub named_block : (N shape : ℕ) (first first' second second' : List ℤ) (place : ℕ) → place < N / 2 → (largest_share N shape place first first' second second').block < 2
+unfolding largest_share
+named_block N shape first first' second second' place p = ((named-first _ _ (N / 2)).inside (omega arith)).0
+
 -- ---- of two blocks
 module _ (N shape : ℕ) (first first' second second' : List ℤ) (place : ℕ) where
   abbrev tests : List Cause
@@ -106,6 +127,22 @@ module _ (N shape : ℕ) (first first' second second' : List ℤ) (place : ℕ) 
   pub share_taken : size_code N shape first first' second second' place ≡ 0 → inside ≡ true → answered_with found ≡ share_answer N shape first first' second second' place
   unfolding share_answer share_code share_causes size_code
   share_taken = answer-taken tests tested inside found
+
+  pub share_sized : eqb (size_code N shape first first' second second' place) 0 ≡ false → share_code N shape first first' second second' place ≡ size_code N shape first first' second second' place
+  unfolding share_code share_causes size_code
+  share_sized = sized_first tests tested inside
+
+  pub share_rest : size_code N shape first first' second second' place ≡ 0 → share_code N shape first first' second second' place ≡ cond inside 0 3
+  unfolding share_code share_causes size_code
+  share_rest = then_ranged tests tested inside
+
+  pub name_sized : (named : List ℕ) → eqb (size_code N shape first first' second second' place) 0 ≡ false → name_code N shape first first' second second' place named ≡ size_code N shape first first' second second' place
+  unfolding name_code name_causes size_code
+  name_sized named = sized_before_room tests tested inside (eqb (length named) 3)
+
+  pub name_rest : (named : List ℕ) → size_code N shape first first' second second' place ≡ 0 → name_code N shape first first' second second' place named ≡ cond (eqb (length named) 3) (cond inside 0 3) 2
+  unfolding name_code name_causes size_code
+  name_rest named = then_room tests tested inside (eqb (length named) 3)
 
   module _ (named : List ℕ) where
     pub name_sized_away : size_code N shape first first' second second' place ≢ 0 →

@@ -4,9 +4,8 @@ use Rattle.std.specs.Prelude.{Bool, false, cond, List, [], ◌∷◌, ◌++◌, 
 use Rattle.cosine.specs.Kernels.{tabled}
 use Rattle.checks.specs.Limits.{in_range}
 use Rattle.checks.specs.Causes.{Cause, ◌unless◌, first_cause}
-use Rattle.shares.specs.declared.Named.{Named}
-use Rattle.shares.specs.Shares.{largest_share}
-use Rattle.share_calls.specs.declared.Share.{Share}
+use Rattle.shares.specs.Shares.{Named, largest_share}
+use Rattle.share_calls.specs.Answers.{Share}
 
 -- N is not tabled, the shape is above 1, a length is not M, 'a place outside the hop counts as a wrong length'
 unfoldable pub size_causes : (N shape : ℕ) → (first first' second second' : List ℤ) → ℕ → List Cause

@@ -1,168 +1,141 @@
 // The public calls on shares over recordings, at long joints: their checks and refusals, and the two blocks gathered from their places.
-ghost use Rattle.std.specs.Prelude.{◌≡◌, ◌+◌, ◌*◌, ◌/◌, ◌^◌, ◌≤◌, ◌<◌, T, length};
+ghost use Rattle.std.specs.Prelude.{◌≡◌, ◌+◌, ◌*◌, ◌/◌, ◌^◌, ◌≤◌, ◌<◌, OnOk, T, length};
 ghost use Rattle.arithmetic.specs.Lists.{Small};
 ghost use Rattle.cosine.specs.Kernels.{tabled};
-ghost use Rattle.share_calls.specs.RecordingShares.{share_at, numbered_from, place_code, both_ranged, recording_share, recording_name_code, recording_name_out};
+ghost use Rattle.orders.specs.Orders.{part};
+ghost use Rattle.refusals.specs.Answers.{code_of};
+ghost use Rattle.shares.specs.Shares.{named_by};
+ghost use Rattle.share_calls.specs.Answers.{read_share};
+ghost use Rattle.share_calls.specs.Changes.{Long, Ranged};
+ghost use Rattle.share_calls.specs.RecordingShareLaws.{Gathered};
+ghost use Rattle.share_calls.specs.RecordingShares.{share_at, numbered_from, place_code, recording_share, recording_name_code, recording_name_out};
 
-use crate::{Share, flag, refused};
+use crate::{Change, Share, name, numbers};
+use checks::{Refusal, check_hops, check_length, check_size, refuse_unless};
 use orders::Order;
-use shares::Named;
 
-// 1: n is not tabled. 2: the number of hops is not 1 to 4,095, a length is not that of H + 1 blocks, the hop is H or more, or the place M or more.
-fn place_code(
+// Length: n is not tabled. Size: the number of hops is not 1 to 4,095, a length is not that of H + 1 blocks, the hop is H or more, or the place M or more.
+#[tactic(auto, using(checks::specs::LimitLaws::places_few, checks::specs::LimitLaws::block_sixes), unfolding(crate::specs::RecordingShares::place_code, crate::specs::RecordingShares::place_causes, checks::specs::Causes::first_cause))]
+fn check_place(
     n: usize,
     hops: usize,
-    original: &[i32],
-    changed: &[i32],
+    change: Change,
     hop: usize,
     place: usize,
-) -> u32
-    ensures { result ≡ place_code n hops original.now changed.now hop place }
+) -> Result<(), Refusal>
+    ensures code { code_of result ≡ place_code n hops change.entry.original.now change.entry.changed.now hop place }
+    ensures tabled { OnOk result (T (tabled n)) }
+    ensures most { OnOk result (hops ≤ 4095) }
+    ensures sixes { OnOk result (6 * ((hops + 1) * (n / 2) / 6) ≡ (hops + 1) * (n / 2)) }
+    ensures long { OnOk result (Long ((hops + 1) * (n / 2)) change.entry.original.now change.entry.changed.now) }
+    ensures hop_placed { OnOk result (hop < hops) }
+    ensures placed { OnOk result (place < n / 2) }
 {
-    if !cosine::is_tabled(n) {
-        return 1;
-    }
-    if !checks::is_counted(hops) {
-        return 2;
-    }
+    check_length(n)?;
+    check_hops(hops)?;
     let m = n / 2;
     let count = (hops + 1) * m;
-    if original.len() != count {
-        return 2;
-    }
-    if changed.len() != count {
-        return 2;
-    }
-    if hop >= hops {
-        return 2;
-    }
-    if place >= m {
-        return 2;
-    }
-    0
-}
-
-// Each coefficient of the two is in range.
-fn both_ranged(n: usize, hops: usize, original: &[i32], changed: &[i32]) -> bool
-    requires { T (tabled n) × (hops ≤ 4095) × (length original.now ≡ (hops + 1) * (n / 2)) × (length changed.now ≡ (hops + 1) * (n / 2)) }
-    ensures { result ≡ both_ranged n hops original.now changed.now }
-{
-    let count = (hops + 1) * (n / 2);
-    if !checks::in_range(original, count) {
-        return false;
-    }
-    checks::in_range(changed, count)
+    change.check_sizes(count)?;
+    refuse_unless(hop < hops, Refusal::Size)?;
+    refuse_unless(place < m, Refusal::Size)
 }
 
 // What is named, its block counted in the recording.
-fn numbered_from(hop: usize, found: Named) -> Named
-    requires { (hop ≤ 4095) × (found.block < 2) }
-    ensures { result ≡ numbered_from hop found }
+#[tactic(auto, unfolding(crate::specs::RecordingShares::numbered_from))]
+fn numbered_from(hop: usize, found: Option<Share>) -> Option<Share>
+    requires few { hop ≤ 4095 }
+    requires of_two { (named_by found).block < 2 }
+    ensures { named_by result ≡ numbered_from hop (named_by found) }
 {
-    let mut block = 0;
-    if found.any {
-        block = hop as u32 + found.block;
-    }
-    Named {
-        any: found.any,
-        block,
-        coefficient: found.coefficient,
-    }
+    found.map(|share| Share {
+        block: hop as u32 + share.block,
+        ..share
+    })
 }
 
-// What is named between the two blocks that cover a hop, which are gathered.
-fn share_at(
+// The coefficients of block b of a recording, in front of room for those of the longest.
+fn gathered(order: Order, n: usize, hops: usize, x: &[i32], b: usize) -> [i32; orders::ROOM]
+    requires placed { T (tabled n) × (hops ≤ 4095) × (b ≤ hops) }
+    requires long { length x.now ≡ (hops + 1) * (n / 2) }
+    requires small { Small x.now (2 ^ 29) }
+    ensures { Gathered (n / 2) (part order (n / 2) (hops + 1) x.now b) result }
+{
+    orders::gathered(order, n / 2, hops + 1, b, x)
+}
+
+// What is named between the two blocks that cover a hop, which are gathered; its block counted in the recording.
+#[tactic(auto, using(crate::specs::ShareCallLaws::named_block), unfolding(crate::specs::RecordingShares::share_at))]
+fn name_at(
     order: Order,
     n: usize,
     hops: usize,
-    original: &[i32],
-    changed: &[i32],
+    change: Change,
     hop: usize,
     place: usize,
-) -> Named
-    requires tabled { T (tabled n) × (hops ≤ 4095) × (hop < hops) × (place < n / 2) }
-    requires lengths { (length original.now ≡ (hops + 1) * (n / 2)) × (length changed.now ≡ (hops + 1) * (n / 2)) }
-    requires small { Small original.now (2 ^ 29) × Small changed.now (2 ^ 29) }
-    ensures { result ≡ share_at order n hops original.now changed.now hop place }
+) -> Option<Share>
+    requires placed { T (tabled n) × (hops ≤ 4095) × (hop < hops) × (place < n / 2) }
+    requires long { Long ((hops + 1) * (n / 2)) change.original.now change.changed.now }
+    requires ranged { Ranged change.original.now change.changed.now }
+    ensures { named_by result ≡ numbered_from hop (share_at order n hops change.entry.original.now change.entry.changed.now hop place) }
 {
     let m = n / 2;
-    let blocks = hops + 1;
-    let first = orders::gathered(order, m, blocks, hop, original);
-    let first_changed = orders::gathered(order, m, blocks, hop, changed);
-    let second = orders::gathered(order, m, blocks, hop + 1, original);
-    let second_changed = orders::gathered(order, m, blocks, hop + 1, changed);
-    shares::largest_share(
+    let first = gathered(order, n, hops, change.original, hop);
+    let first_changed = gathered(order, n, hops, change.changed, hop);
+    let second = gathered(order, n, hops, change.original, hop + 1);
+    let second_changed = gathered(order, n, hops, change.changed, hop + 1);
+    let found = name(
         n,
         0,
-        &first[..m],
-        &first_changed[..m],
-        &second[..m],
-        &second_changed[..m],
+        Change {
+            original: &first[..m],
+            changed: &first_changed[..m],
+        },
+        Change {
+            original: &second[..m],
+            changed: &second_changed[..m],
+        },
         place,
-    )
+    );
+    numbered_from(hop, found)
 }
 
-// Which coefficient moved a returned sample of a recording: its original and its changed coefficients, both in the order named, the sample's hop and its place there.
-// What is named is a block of the recording, by its number, and a coefficient. 1: n is not tabled. 2: the number of hops is not 1 to 4,095, a length is not the stated
-// one, the hop is H or more, or the place M or more. 3: a coefficient is out of range, wherever it stands.
+/// Which coefficient moved a returned sample of a recording: its coefficients, in the order named, the sample's hop and its place there. What is named is a block of the
+/// recording, by its number, and a coefficient. None: every share is zero. Length (1): n is not tabled. Size (2): the number of hops is not 1 to 4,095, a length is not the
+/// stated one, the hop is H or more, or the place M or more. Coefficient (3): one is out of range, wherever it stands.
+#[tactic(auto, using(refusals::specs::AnswerLaws::number_some, crate::specs::RecordingShareLaws::share_placed, checks::specs::LimitLaws::places_few, crate::specs::RecordingShareLaws::share_rest), unfolding(crate::specs::RecordingShares::recording_share, crate::specs::RecordingShares::both_ranged))]
 pub fn largest_share_recording(
     order: Order,
     n: usize,
     hops: usize,
-    original: &[i32],
-    changed: &[i32],
+    change: Change,
     hop: usize,
     place: usize,
-) -> Share
-    ensures { result ≡ recording_share order n hops original.now changed.now hop place }
+) -> Result<Option<Share>, Refusal>
+    ensures answer { read_share result ≡ recording_share order n hops change.entry.original.now change.entry.changed.now hop place }
 {
-    let code = place_code(n, hops, original, changed, hop, place);
-    if code != 0 {
-        return refused(code);
-    }
-    if !both_ranged(n, hops, original, changed) {
-        return refused(3);
-    }
-    let found = share_at(order, n, hops, original, changed, hop, place);
-    let named = numbered_from(hop, found);
-    Share {
-        code: 0,
-        any: named.any,
-        block: named.block,
-        coefficient: named.coefficient,
-    }
+    check_place(n, hops, change, hop, place)?;
+    change.check_ranges((hops + 1) * (n / 2))?;
+    Ok(name_at(order, n, hops, change, hop, place))
 }
 
-// The same into room for three numbers, for C: 1 if a share is not zero, the block and the coefficient. 2 also where the room's length is another. Refused, the room is
-// left alone.
+/// The same into room for three numbers, for C: 1 if a share is not zero, the block and the coefficient. Size also where the room's length is another. Refused, the room
+/// is left alone.
+#[tactic(auto, using(refusals::specs::AnswerLaws::number_some, crate::specs::RecordingShareLaws::name_placed, checks::specs::LimitLaws::places_few, crate::specs::RecordingShareLaws::name_rest), unfolding(crate::specs::RecordingShares::recording_name_out, crate::specs::RecordingShares::both_ranged))]
 pub fn name_share_recording(
     order: Order,
     n: usize,
     hops: usize,
-    original: &[i32],
-    changed: &[i32],
+    change: Change,
     hop: usize,
     place: usize,
     room: &mut [u32],
-) -> u32
-    ensures value { result ≡ recording_name_code n hops original.now changed.now hop place room.old }
-    ensures room_after { room.new ≡ recording_name_out order n hops original.now changed.now hop place room.old }
+) -> Result<(), Refusal>
+    ensures code { code_of result ≡ recording_name_code n hops change.entry.original.now change.entry.changed.now hop place room.old }
+    ensures room_after { room.new ≡ recording_name_out order n hops change.entry.original.now change.entry.changed.now hop place room.old }
 {
-    let code = place_code(n, hops, original, changed, hop, place);
-    if code != 0 {
-        return code;
-    }
-    if room.len() != 3 {
-        return 2;
-    }
-    if !both_ranged(n, hops, original, changed) {
-        return 3;
-    }
-    let share = share_at(order, n, hops, original, changed, hop, place);
-    let named = numbered_from(hop, share);
-    let any = flag(named.any);
-    room[0] = any;
-    room[1] = named.block;
-    room[2] = named.coefficient;
-    0
+    check_place(n, hops, change, hop, place)?;
+    check_size(room.len(), 3)?;
+    change.check_ranges((hops + 1) * (n / 2))?;
+    room.copy_from_slice(&numbers(name_at(order, n, hops, change, hop, place)));
+    Ok(())
 }

@@ -15,11 +15,10 @@ use Rattle.arithmetic.specs.Lists.{at}
 use Rattle.arithmetic.specs.OrderLaws.{abs_mul}
 use Rattle.cosine.specs.Kernels.{K, rising, falling}
 use Rattle.shares.specs.Shares as S
-use Rattle.shares.specs.Shares.{share_of, share_in, Before, best, none, named, largest_share}
+use Rattle.shares.specs.Shares.{share_of, share_in, Before, Named, best, none, named, largest_share}
 use Rattle.shares.specs.Shares.Before.{block, coefficient}
 use Rattle.shares.specs.Products.{change_times, largest_in, named_of}
 use Rattle.shares.specs.declared.Largest.{Largest}
-use Rattle.shares.specs.declared.Named.{Named}
 
 -- b is the place of the largest of the first m, the first of equal ones
 pub record First (f : ℕ → ℕ) (m b : ℕ) : Type 0 where

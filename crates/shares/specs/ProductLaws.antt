@@ -39,6 +39,9 @@ module _ (a b c d : ℕ) (p q : Words) (i : IsProduct a b p) (j : IsProduct c d 
 pub is-product : (a b : ℕ) → IsProduct a b (record { high = a / 4294967296 * b + a % 4294967296 * b / 4294967296; low = a % 4294967296 * b % 4294967296 })
 is-product a b = record { is = parts 4294967296 a b; small = mod-lt (a % 4294967296 * b) (lit≤ tt) }
 
+-- for the search
+pub ruleset two_words = (is-product)
+
 pub under_le : (a b : ℕ) → b ≤ 2 ^ 26 → a % 4294967296 * b ≤ 2 ^ 32 * 2 ^ 26
 under_le a b h = let k : a % 4294967296 ≤ 2 ^ 32 = omega arith in mul-le-mul k h
 

@@ -4,8 +4,7 @@ use Rattle.arithmetic.specs.Lists.{at}
 use Rattle.cosine.specs.Kernels.{K}
 use Rattle.shares.specs.declared.words.Words.{Words}
 use Rattle.shares.specs.declared.Largest.{Largest}
-use Rattle.shares.specs.declared.Named.{Named}
-use Rattle.shares.specs.Shares.{best, none}
+use Rattle.shares.specs.Shares.{Named, best, none}
 
 -- the two words of a × b
 pub record IsProduct (a b : ℕ) (r : Words) : Type 0 where

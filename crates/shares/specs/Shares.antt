@@ -1,8 +1,8 @@
 -- Which coefficient moved a sample: definitions. Document 02, P9. A sample of a hop lies in two blocks, an earlier and a later one, and the joint between them has one shape.
-use Rattle.std.specs.Prelude.{true, false, cond, List, ℕ, zero, suc, ◌+◌, ◌/◌, ◌<◌, ltb, eqb, ℤ, nat_abs, ◌-ℤ◌, ◌*ℤ◌}
+use Rattle.std.specs.Prelude.{Bool, true, false, cond, List, ℕ, zero, suc, ◌+◌, ◌/◌, ◌<◌, ltb, eqb, ℤ, nat_abs, ◌-ℤ◌, ◌*ℤ◌, Option, None, Some}
 use Rattle.arithmetic.specs.Lists.{at}
 use Rattle.cosine.specs.Kernels.{K, rising, falling}
-use Rattle.shares.specs.declared.Named.{Named}
+use Rattle.shares.specs.declared.Share.{Share}
 
 -- 'A share is the change times K times W at that sample, taken without its sign': of coefficient k, x the original coefficients of its block and y the changed ones
 unfoldable pub share_of : List ℤ → List ℤ → (ℕ → ℤ) → ℤ → ℕ → ℕ
@@ -31,6 +31,12 @@ unfoldable pub best : (ℕ → ℕ) → ℕ → ℕ
 best f zero = 0
 best f (suc m) = cond (ltb (f (best f m)) (f m)) m (best f m)
 
+-- whether a share is not zero, and then the block, 0 the earlier and 1 the later, and the coefficient
+pub record Named : Type 0 where
+  pub any : Bool
+  pub block : ℕ
+  pub coefficient : ℕ
+
 -- nothing is named
 abbrev pub none : Named
 none = record { any = false; block = 0; coefficient = 0 }
@@ -44,3 +50,8 @@ named m f g =
 -- of the sample at place n, first and second being the original coefficients of its two blocks and those with a dash the changed ones
 unfoldable pub largest_share : (N shape n : ℕ) → (first first' second second' : List ℤ) → Named
 largest_share N shape n first first' second second' = named (N / 2) (earlier N shape n first first') (later N shape n second second')
+
+-- an answer as what it names
+abbrev pub named_by : Option Share → Named
+named_by None = none
+named_by (Some s) = record { any = true; block = s.block; coefficient = s.coefficient }

@@ -4,19 +4,18 @@
 
 mod words;
 
-ghost use Rattle.std.specs.Prelude.{◌≡◌, ◌*◌, ◌/◌, ◌^◌, ◌≤◌, ◌<◌, T, length, nat_abs, ◌-ℤ◌};
+ghost use Rattle.std.specs.Prelude.{◌≡◌, ◌*◌, ◌/◌, ◌^◌, ◌≤◌, ◌<◌, T, length};
 ghost use Rattle.arithmetic.specs.Lists.{Small};
 ghost use Rattle.cosine.specs.Kernels.{tabled};
 ghost use Rattle.cosine.specs.TableLaws.{numbers};
-ghost use Rattle.shares.specs.Shares.{none, largest_share};
+ghost use Rattle.shares.specs.Shares.{named_by, largest_share};
 ghost use Rattle.shares.specs.Products.{change_times, largest_in, named_of};
 
 use words::smaller;
 
-// Whether any share is not zero, and then the block, 0 the earlier and 1 the later, and the coefficient with the largest.
-#[derive(Clone, Copy)]
-pub struct Named {
-    pub any: bool,
+// A block and a coefficient of it. Of two blocks the earlier is 0 and the later 1.
+#[derive(Clone, Copy, Debug, PartialEq, Eq)]
+pub struct Share {
     pub block: u32,
     pub coefficient: u32,
 }
@@ -28,23 +27,14 @@ pub struct Largest {
     pub product: u64,
 }
 
-// The size of a - b: the larger less the smaller.
-fn apart(a: i32, b: i32) -> u64
-    ensures { result ≡ nat_abs (a -ℤ b) }
-{
-    if a < b {
-        return (b as i64 - a as i64) as u64;
-    }
-    (a as i64 - b as i64) as u64
-}
-
 // The size of the change of coefficient k times that of K(i,k).
+#[tactic(auto, using(crate::specs::ProductLaws::change_le), unfolding(crate::specs::Products::change_times))]
 fn change_times(cos: &[i32; 217], n: usize, i: usize, x: &[i32], y: &[i32], k: usize) -> u64
     requires ready { (cos.now ≡ numbers) × T (tabled n) × (i < n) × (k < n / 2) }
     requires x_len { (length x.now ≡ n / 2) × (length y.now ≡ n / 2) × Small x.now (2 ^ 29) × Small y.now (2 ^ 29) }
     ensures { (result ≡ change_times n i x.now y.now k) × (result ≤ 2 ^ 56) }
 {
-    apart(y[k], x[k]) * arithmetic::size(cosine::kernel(cos, n, i, k))
+    y[k].abs_diff(x[k]) as u64 * cosine::kernel(cos, n, i, k).unsigned_abs()
 }
 
 // The largest of a block at its place i, the lowest coefficient of equal ones.
@@ -55,6 +45,7 @@ fn largest_in(cos: &[i32; 217], n: usize, i: usize, x: &[i32], y: &[i32]) -> Lar
 {
     let mut best = 0;
     let mut most = change_times(cos, n, i, x, y, 0);
+    // By number: K is of the coefficient's number too.
     for k in 0..n / 2 {
         let s = change_times(cos, n, i, x, y, k);
         if most < s {
@@ -68,45 +59,30 @@ fn largest_in(cos: &[i32; 217], n: usize, i: usize, x: &[i32], y: &[i32]) -> Lar
     }
 }
 
-fn nothing() -> Named
-    ensures { result ≡ none }
-{
-    Named {
-        any: false,
-        block: 0,
-        coefficient: 0,
-    }
-}
-
-// The larger of the two blocks' largest, each times its W; the earlier block on equal ones.
-fn larger_of_two(a: Largest, v: u64, b: Largest, w: u64) -> Named
+// The larger of the two blocks' largest, each times its W; the earlier block on equal ones, and none where both are zero.
+#[tactic(auto, unfolding(crate::specs::Products::named_of))]
+fn larger_of_two(a: Largest, v: u64, b: Largest, w: u64) -> Option<Share>
     requires product_bound { (a.product ≤ 2 ^ 56) × (v ≤ 2 ^ 26) × (b.product ≤ 2 ^ 56) × (w ≤ 2 ^ 26) }
     requires coefficient_bound { (a.coefficient < 108) × (b.coefficient < 108) }
-    ensures { result ≡ named_of a v b w }
+    ensures { named_by result ≡ named_of a v b w }
 {
-    let p = a.product;
-    let q = b.product;
-    if smaller(p, v, q, w) {
-        return Named {
-            any: true,
+    if smaller(a.product, v, b.product, w) {
+        Some(Share {
             block: 1,
             coefficient: b.coefficient as u32,
-        };
-    }
-    if p == 0 {
-        return nothing();
-    }
-    if v == 0 {
-        return nothing();
-    }
-    Named {
-        any: true,
-        block: 0,
-        coefficient: a.coefficient as u32,
+        })
+    } else if a.product == 0 || v == 0 {
+        None
+    } else {
+        Some(Share {
+            block: 0,
+            coefficient: a.coefficient as u32,
+        })
     }
 }
 
-// The block and the coefficient with the largest share of what moved a sample: at this place of the hop that two blocks cover, with a joint of this shape between them.
+// The block and the coefficient with the largest share of what moved a sample: at this place of the hop that two blocks cover, with a joint of this shape between them. None where every share is zero.
+// Four slices and a shape by its number, as the definition takes them: `share_calls`, above, has the pairs.
 pub fn largest_share(
     n: usize,
     shape: u32,
@@ -115,11 +91,11 @@ pub fn largest_share(
     second: &[i32],
     second_changed: &[i32],
     place: usize,
-) -> Named
+) -> Option<Share>
     requires tabled { T (tabled n) × (place < n / 2) }
     requires lengths { (length first.now ≡ n / 2) × (length first_changed.now ≡ n / 2) × (length second.now ≡ n / 2) × (length second_changed.now ≡ n / 2) }
     requires small { Small first.now (2 ^ 29) × Small first_changed.now (2 ^ 29) × Small second.now (2 ^ 29) × Small second_changed.now (2 ^ 29) }
-    ensures { result ≡ largest_share n shape place first.now first_changed.now second.now second_changed.now }
+    ensures { named_by result ≡ largest_share n shape place first.now first_changed.now second.now second_changed.now }
 {
     let cos = cosine::quarter_turn();
     let a = largest_in(&cos, n, n / 2 + place, first, first_changed);

@@ -9,6 +9,7 @@ pub struct Words {
     pub low: u64,
 }
 
+#[tactic(auto, using(crate::specs::ProductLaws::two_words))]
 fn product(a: u64, b: u64) -> Words
     requires { (a ≤ 2 ^ 56) × (b ≤ 2 ^ 26) }
     ensures { IsProduct a b result }

@@ -7,6 +7,7 @@ pub mod TripleLaws
 pub mod ShortLaws
 pub mod ShortFoldLaws
 pub mod SignLaws
-pub mod RotationLaws
+pub mod TurnLaws
 pub mod ShortStepLaws
 pub mod PartLaws
+pub mod TurnLists

@@ -15,27 +15,16 @@ use Rattle.transform.specs.FoldLaws.{folded, folded-size}
 use Rattle.transform.specs.InverseLaws.{folds}
 use Rattle.transform.specs.DirectLaws.{S-folds}
 use Rattle.transform.specs.Stages.{Input}
-use Rattle.tables.specs.HalfLaws.{rise_list, fall_list}
-use Rattle.tables.specs.LiftLists.{Lifted, lift_list, base_list}
-use Rattle.transform.specs.LiftLaws.{lifted, lifted-length, lifted-is, raised, lowered, folds-summed}
-use Rattle.transform.specs.LiftLaws as lifts
+use Rattle.windows.specs.HalfLaws.{rise_list, fall_list}
 use Rattle.split.specs.ShortRoute.{r_b, A, B, G}
 use Rattle.split.specs.Parts.{middle, turned_c}
 use Rattle.split.specs.ShortSizeLaws.{middle-size, r_b_size, turned-size}
 use Rattle.split.specs.ShortStepLaws.{table_small, third-step}
-use Rattle.split.specs.RotationLaws.{rotated, beside_e, beside_f, signed, rotated-is}
+use Rattle.split.specs.TurnLaws.{rotated, beside_e, beside_f, signed, rotated-is}
 
 -- a part's inputs, folded to half their number
 abbrev pub halved : List ℤ → List ℤ
 halved w = table (length w / 2) (folded (length w) (at w))
-
--- and lifted
-unfoldable pub inputs : List ℤ → List ℤ
-inputs w = lifted (halved w)
-
-pub inputs_are : (w z l : List ℤ) → z ≡ halved w → l ≡ lifted z → l ≡ inputs w
-unfolding inputs
-inputs_are w z l e h = h ∙ ap lifted e
 
 -- ---- the three parts of the split of N inputs y, by their numbers
 unfoldable pub place : ℕ → ℕ → (ℕ → ℤ) → ℕ → ℤ
@@ -107,12 +96,6 @@ unfolding third
 third-made k N y w g h =
     record { part = g.part; most = omega (arith, g.few); is = h; small = rw h (table_small (N / 3) (2 ^ 28) (place k N (at y)) (λ i l. omega (arith, place-size N (at y) (λ j q. g.small.small j (rw g.all q)) k i l))) }
 
--- lifted inputs of a part of P, half as many
-pub record Ready (P : ℕ) (z : List ℤ) : Type 0 where
-  pub most : P / 2 ≤ 36
-  pub long : length z ≡ P / 2
-  pub lifted : Lifted z (2 ^ 30)
-
 module _ (k N : ℕ) (y w : List ℤ) (t : Third k N y w) where
   pub third_long : length w ≡ N / 3
   third_long = ap length t.is ∙ third_length k N (at y)
@@ -131,45 +114,16 @@ module _ (k N : ℕ) (y w : List ℤ) (t : Third k N y w) where
         small = s;
       })
 
-  pub inputs_ready : Ready (N / 3) (inputs w)
-  unfolding inputs
-  inputs_ready =
-      let i = halved-input (halved w) refl in
-      record { most = t.most; long = lifted-length (halved w) ∙ i.long; lifted = lifted-is (halved w) i.small }
-
--- z has those of part k, folded
-pub record Inputs (k N : ℕ) (y z : List ℤ) : Type 0 where
-  pub part : Part (N / 3)
-  pub are : z ≡ inputs (third k N (at y))
-  pub ready : Ready (N / 3) z
-
--- za, zb and zg have those of the three parts
-pub record Parts (N : ℕ) (y za zb zg : List ℤ) : Type 0 where
-  pub given : Given N y
-  pub first : Inputs 0 N y za
-  pub second : Inputs 1 N y zb
-  pub last : Inputs 2 N y zg
-
--- as many of each
-pub record Abreast (x y z : List ℤ) : Type 0 where
-  pub most : length x ≤ 36
-  pub second_long : length y ≡ length x
-  pub third_long : length z ≡ length x
-  pub first : Lifted x (2 ^ 30)
-  pub second : Lifted y (2 ^ 30)
-  pub third : Lifted z (2 ^ 30)
+-- room for m numbers, twice
+pub record Room (m : ℕ) (z t : List ℤ) : Type 0 where
+  pub first : length z ≡ m
+  pub second : length t ≡ m
 
 -- room for m numbers of each part
 pub record Rooms (m : ℕ) (a b g : List ℤ) : Type 0 where
   pub first : length a ≡ m
   pub second : length b ≡ m
   pub last : length g ≡ m
-
--- their sums with the lifted kernel
-pub record Raised (P : ℕ) (za zb zg a b g : List ℤ) : Type 0 where
-  pub first_is : a ≡ table (P / 2) (raised za (lift_list P))
-  pub second_is : b ≡ table (P / 2) (raised zb (lift_list P))
-  pub third_is : g ≡ table (P / 2) (raised zg (lift_list P))
 
 -- the sums of part k: those of its direct analysis
 abbrev pub summed : ℕ → ℕ → List ℤ → List ℤ
@@ -188,13 +142,6 @@ module _ (P : ℕ) (p : Part P) (w : List ℤ) (long : length w ≡ P) where
   halved-sums s h =
       let f : halved w ≡ table (P / 2) (folded P (at w)) = ap (λ (n : ℕ). table (n / 2) (folded n (at w))) long in
       h ∙ table_ext (P / 2) (folds P (halved w)) (S P (at w)) (λ k _. ap (λ (x : List ℤ). folds P x k) f ∙ S-folds P p (at w) k)
-
-  pub part_sums_are : (z base t s : List ℤ) → z ≡ inputs w → base ≡ base_list P → t ≡ table (length z) (raised z (lift_list P)) →
-      s ≡ table (length z) (lowered z base t) → s ≡ table (P / 2) (S P (at w))
-  unfolding inputs lifts.summed
-  part_sums_are z base t s e b u h =
-      let l : length (halved w) ≡ P / 2 = length-table (folded (length w) (at w)) (length w / 2) ∙ ap (λ (n : ℕ). n / 2) long in
-      halved-sums s (rw (u, e) at h ∙ folds-summed P (halved w) (lift_list P) base l refl b)
 
 -- their sums are A, B and G
 module _ (N : ℕ) (l : Length N) (t : Part (N / 3)) (y : ℕ → ℤ) (w s : List ℤ) (h : s ≡ table (N / 3 / 2) (S (N / 3) (at w))) where

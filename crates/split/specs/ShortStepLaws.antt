@@ -16,7 +16,7 @@ use Rattle.split.specs.ShortRoute.{a, b, c, e, f, r_b, r_c, A, B, G, D, Unrounde
 use Rattle.split.specs.Parts.{middle}
 use Rattle.split.specs.ShortSizeLaws.{A-size, plus-size, minus-size}
 use Rattle.split.specs.ShortFoldLaws.{third-sum}
-use Rattle.tables.specs.HalfLaws.{rise_list, fall_list}
+use Rattle.windows.specs.HalfLaws.{rise_list, fall_list}
 use Rattle.transform.specs.DirectLaws.{y-lent, S_ext}
 
 -- every entry of a table is small where its rule is

@@ -5,8 +5,10 @@ ghost use Rattle.arithmetic.specs.RoundingLaws.{under};
 ghost use Rattle.arithmetic.specs.Lists.{table, Small};
 ghost use Rattle.transform.specs.HopLaws.{windowed};
 ghost use Rattle.split.specs.ShortStepLaws.{interleaved};
-ghost use Rattle.tables.specs.HalfLaws.{WindowHalf};
+ghost use Rattle.windows.specs.HalfLaws.{WindowHalf};
 ghost use Rattle.split.specs.WindowLaws.{weighted};
+
+use transform::rounding::coefficient;
 
 // A sample's tilt, as `arithmetic` has it of a sum.
 fn tilt(x: i16) -> i32
@@ -63,8 +65,8 @@ fn window_hop(size: usize, half: &[i32], x: &[i16], out: &mut [i32])
     ensures out_after { out.new ≡ table (length half.now) (λ n. windowed half.now n x.now n) }
     ensures small { Small out.new (2 ^ 23) }
 {
-    for n in 0..half.len() {
-        out[n] = windowed(size, half, n, x, n);
+    for (n, place) in out.iter_mut().enumerate() {
+        *place = windowed(size, half, n, x, n);
     }
 }
 
@@ -83,16 +85,6 @@ pub fn windowed_block(size: usize, rise: &[i32], fall: &[i32], x: &[i16], out: &
     window_hop(size, fall, &x[m..], &mut out[m..]);
 }
 
-// A sum of the split, divided by 2^k.
-fn rounded(s: i64, k: u32) -> i32
-    requires k_least { 28 ≤ k }
-    requires k_bound { k ≤ 29 }
-    requires s_bound { nat_abs s ≤ 2 ^ 58 }
-    ensures { result ≡ rnd s (2 ^ k) }
-{
-    arithmetic::rnd_shift(s, k) as i32
-}
-
 // The last step: X(3k), X(3k+1) and X(3k+2) from B(k) + D(k), A(k) and B(k) - D(k).
 pub fn coefficients(a: &[i64], plus: &[i64], minus: &[i64], out: &mut [i32])
     requires plus_len { length plus.now ≡ length a.now }
@@ -103,9 +95,10 @@ pub fn coefficients(a: &[i64], plus: &[i64], minus: &[i64], out: &mut [i32])
     requires minus_small { Small minus.now (2 ^ 58) }
     ensures { out.new ≡ table (3 * length a.now) (interleaved a.now plus.now minus.now) }
 {
+    // by index: a walk over three places at a time would leave nothing known of them (`iter_mut` under an adapter)
     for k in 0..a.len() {
-        out[3 * k] = rounded(plus[k], 29);
-        out[3 * k + 1] = rounded(a[k], 28);
-        out[3 * k + 2] = rounded(minus[k], 29);
+        out[3 * k] = coefficient(plus[k], 29);
+        out[3 * k + 1] = coefficient(a[k], 28);
+        out[3 * k + 2] = coefficient(minus[k], 29);
     }
 }

@@ -2,11 +2,10 @@
 // The names are document 01's. N is the length of y.
 ghost use Rattle.std.specs.Prelude.{◌≡◌, ◌-◌, ◌*◌, ◌/◌, ◌^◌, ◌≤◌, ◌<◌, length, pos, nat_abs, ◌+ℤ◌, ◌-ℤ◌, ◌*ℤ◌};
 ghost use Rattle.arithmetic.specs.Lists.{at, table, Small};
-ghost use Rattle.transform.specs.Stages.{Room};
 ghost use Rattle.split.specs.ShortRoute.{a, b, c, e, f, Unrounded};
 ghost use Rattle.split.specs.Parts.{middle};
-ghost use Rattle.split.specs.RotationLaws.{rotated, limit, Turns, Beside, signed};
-ghost use Rattle.split.specs.PartLaws.{third, Given, Third, Summed};
+ghost use Rattle.split.specs.TurnLaws.{rotated, limit, Turns, Beside, signed};
+ghost use Rattle.split.specs.PartLaws.{third, Given, Third, Room, Summed};
 
 // a, b and c at place n, below N/3.
 fn a_at(y: &[i32], n: usize) -> i32
@@ -63,65 +62,15 @@ fn f_at(y: &[i32], n: usize) -> i32
     a_at(y, n) + b_at(y, n)
 }
 
-// The rotation of e and f multiplies numbers that are never negative: of 32 bits, SSE2 multiplies only such in one step. So 2^27 is added to e and f,
-// as it is to each number of the tables, and what that adds to the products is taken out again.
-
-// a + 2^27.
-fn up(a: i32) -> u64
-    requires { nat_abs a ≤ 2 ^ 27 }
-    ensures result_value { pos result ≡ a +ℤ pos (2 ^ 27) }
-    ensures upper_bound { result ≤ 2 ^ 28 }
-{
-    (a + 134217728) as u32 as u64
-}
-
-// A number of the tables.
-fn plain(p: i32) -> u64
-    requires { nat_abs (p -ℤ pos (2 ^ 27)) ≤ 2 ^ 27 }
-    ensures result_value { pos result ≡ p }
-    ensures upper_bound { result ≤ 2 ^ 28 }
-{
-    p as u32 as u64
-}
-
-// e (p - 2^27) + f (q - 2^27): each product has the lifts' own, 2^54, taken out once too often, so 2^55 is put back.
-fn lifted_turn(e: i32, f: i32, p: i32, q: i32) -> i64
-    requires e_bound { nat_abs e ≤ 2 ^ 27 }
-    requires f_bound { nat_abs f ≤ 2 ^ 27 }
-    requires p_bound { nat_abs (p -ℤ pos (2 ^ 27)) ≤ 2 ^ 27 }
-    requires q_bound { nat_abs (q -ℤ pos (2 ^ 27)) ≤ 2 ^ 27 }
-    ensures { result ≡ e *ℤ (p -ℤ pos (2 ^ 27)) +ℤ f *ℤ (q -ℤ pos (2 ^ 27)) }
-{
-    let a = up(e);
-    let b = up(f);
-    let c = plain(p);
-    let d = plain(q);
-    (a * c + b * d) as i64 - ((a + b + c + d) * 134217728) as i64 + 36028797018963968
-}
-
-// The same with no lifts but the tables'.
-fn plain_turn(e: i32, f: i32, p: i32, q: i32) -> i64
+// e p + f q.
+fn turn(e: i32, f: i32, p: i32, q: i32) -> i64
     requires e_bound { nat_abs e ≤ 2 ^ 28 }
     requires f_bound { nat_abs f ≤ 2 ^ 28 }
-    requires p_bound { nat_abs (p -ℤ pos (2 ^ 27)) ≤ 2 ^ 27 }
-    requires q_bound { nat_abs (q -ℤ pos (2 ^ 27)) ≤ 2 ^ 27 }
-    ensures { result ≡ e *ℤ (p -ℤ pos (2 ^ 27)) +ℤ f *ℤ (q -ℤ pos (2 ^ 27)) }
+    requires p_bound { nat_abs p ≤ 2 ^ 27 }
+    requires q_bound { nat_abs q ≤ 2 ^ 27 }
+    ensures { result ≡ e *ℤ p +ℤ f *ℤ q }
 {
-    e as i64 * (p as i64 - 134217728) + f as i64 * (q as i64 - 134217728)
-}
-
-// The same in a part of `size` inputs.
-fn turn(size: usize, e: i32, f: i32, p: i32, q: i32) -> i64
-    requires e_bound { nat_abs e ≤ 4 * limit size }
-    requires f_bound { nat_abs f ≤ 4 * limit size }
-    requires p_bound { nat_abs (p -ℤ pos (2 ^ 27)) ≤ 2 ^ 27 }
-    requires q_bound { nat_abs (q -ℤ pos (2 ^ 27)) ≤ 2 ^ 27 }
-    ensures { result ≡ e *ℤ (p -ℤ pos (2 ^ 27)) +ℤ f *ℤ (q -ℤ pos (2 ^ 27)) }
-{
-    if size < crate::LONG {
-        return plain_turn(e, f, p, q);
-    }
-    lifted_turn(e, f, p, q)
+    e as i64 * p as i64 + f as i64 * q as i64
 }
 
 // The rotation of e and f at place n: rB or rC, as p and q are.
@@ -132,7 +81,7 @@ fn rotated_at(size: usize, y: &[i32], p: &[i32], q: &[i32], n: usize) -> i32
     ensures value { result ≡ rotated (length y.now) (at y.now) p.now q.now n }
     ensures result_bound { nat_abs result ≤ 2 ^ 29 }
 {
-    arithmetic::rnd_shift(turn(size, e_at(y, n), f_at(y, n), p[n], q[n]), 26) as i32
+    arithmetic::rnd_shift(turn(e_at(y, n), f_at(y, n), p[n], q[n]), 26) as i32
 }
 
 // The same with its sign: rC's, of part 2, is changed where n + N/12 is even.
@@ -149,7 +98,9 @@ fn outer_at(size: usize, which: usize, y: &[i32], p: &[i32], q: &[i32], n: usize
     if (n + y.len() / 12) % 2 == 0 { -r } else { r }
 }
 
-// The inputs of the three parts of N/3, y having n inputs, for the short route's split and the double route's.
+// The inputs of the three parts of N/3, y having n inputs, for the short route's split and the double route's. A part is named by its number, as in the
+// definitions `third` and `signed`: 0, 1 and 2. Of a length's four lists of cosines p and q are the two beside part `which`.
+// Their loops go by number: they count to n / 3, which the compiler knows where n is a constant, as it does not know the length of a caller's slice.
 pub fn middle_third(n: usize, y: &[i32], w: &mut [i32])
     requires y_len { length y.now ≡ n }
     requires small { Small y.now (limit n) }
@@ -161,7 +112,7 @@ pub fn middle_third(n: usize, y: &[i32], w: &mut [i32])
     }
 }
 
-pub fn outer_third(n: usize, which: usize, y: &[i32], p: &[i32], q: &[i32], w: &mut [i32])
+pub fn turned_third(n: usize, which: usize, y: &[i32], p: &[i32], q: &[i32], w: &mut [i32])
     requires y_len { length y.now ≡ n }
     requires small { Small y.now (limit n) }
     requires beside { Beside which n p.now q.now }
@@ -173,7 +124,7 @@ pub fn outer_third(n: usize, which: usize, y: &[i32], p: &[i32], q: &[i32], w: &
     }
 }
 
-// The same of a windowed block.
+// The same of a windowed block, in the short route's words: `fill_middle` is named so in docs/READING.md.
 pub fn fill_middle(n: usize, y: &[i32], w: &mut [i32])
     requires given { Given n y.now }
     requires w_len { length w.old ≡ n / 3 }
@@ -182,13 +133,13 @@ pub fn fill_middle(n: usize, y: &[i32], w: &mut [i32])
     middle_third(n, y, w);
 }
 
-pub fn fill_outer(n: usize, which: usize, y: &[i32], p: &[i32], q: &[i32], w: &mut [i32])
+pub fn fill_turned(n: usize, which: usize, y: &[i32], p: &[i32], q: &[i32], w: &mut [i32])
     requires given { Given n y.now }
     requires beside { Beside which n p.now q.now }
     requires w_len { length w.old ≡ n / 3 }
     ensures { Third which n y.now w.new }
 {
-    outer_third(n, which, y, p, q, w);
+    turned_third(n, which, y, p, q, w);
 }
 
 // B(k) + D(k) and B(k) - D(k), with D(k) = G(N/6-1-k).
@@ -202,6 +153,7 @@ fn join(b: &[i64], g: &[i64], plus: &mut [i64], minus: &mut [i64])
     ensures minus_after { minus.new ≡ table (length b.now) (λ k. at b.now k -ℤ at g.now (length b.now - 1 - k)) }
 {
     let h = b.len();
+    // by index: two slices are written at once, and one is read backwards
     for k in 0..h {
         let d = g[h - 1 - k];
         plus[k] = b[k] + d;

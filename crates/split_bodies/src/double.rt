@@ -1,40 +1,41 @@
-// The double route's analysis of one block, a body for each length at which it is offered: each windows the block as the short route does, so that the compiler knows every
-// count there. The split is in `double_route`.
-ghost use Rattle.std.specs.Prelude.{◌≡◌, ◌/◌, T, length};
+// The double route's analysis of one block, one body for both lengths at which it is offered, which windows the block as the short route does. The split is in `double_route`.
+ghost use Rattle.std.specs.Prelude.{◌≡◌, ◌+◌, ◌/◌, ◌≤◌, T, length};
 ghost use Rattle.cosine.specs.Kernels.{rising, falling};
+ghost use Rattle.cosine.specs.LengthLaws.{Length};
 ghost use Rattle.transform.specs.Analysis.{y};
 ghost use Rattle.double_route.specs.Double.{offered, double};
 
 use crate::short;
+use windows::{Joints, Window};
 
-fn double_36(left: u32, right: u32, x: &[i16], out: &mut [i32])
-    requires x_len { length x.now ≡ 36 }
-    requires out_len { length out.old ≡ 18 }
-    ensures { out.new ≡ double 36 (y 36 (rising left 36) (falling right 36) x.now) }
+// The coefficients of a block of N = 2 M samples, windowed first.
+fn double_of<const N: usize, const M: usize>(
+    window: Window<M>,
+    joints: Joints,
+    x: &[i16],
+    out: &mut [i32],
+)
+    requires whole { Length N }
+    requires half { (N ≡ M + M) × (N ≤ 72) }
+    requires offered { T (offered N) }
+    requires x_len { length x.now ≡ N }
+    requires out_len { length out.old ≡ M }
+    ensures { out.new ≡ double N (y N (rising joints.left N) (falling joints.right N) x.now) }
 {
-    let mut block = [0i32; 36];
-    short::windowed_36(left, right, x, &mut block);
-    double_route::double_block(36, left, right, x, &block, out);
+    let mut block = [0i32; N];
+    short::windowed::<N, M>(window, joints, x, &mut block);
+    double_route::double_block(N, joints, x, &block, out);
 }
 
-fn double_72(left: u32, right: u32, x: &[i16], out: &mut [i32])
-    requires x_len { length x.now ≡ 72 }
-    requires out_len { length out.old ≡ 36 }
-    ensures { out.new ≡ double 72 (y 72 (rising left 72) (falling right 72) x.now) }
-{
-    let mut block = [0i32; 72];
-    short::windowed_72(left, right, x, &mut block);
-    double_route::double_block(72, left, right, x, &block, out);
-}
-
-// The coefficients of a block by the double route, with joints of the shapes left and right.
-pub fn analyse(n: usize, left: u32, right: u32, x: &[i16], out: &mut [i32])
+// The coefficients of a block by the double route, with joints of these shapes.
+pub fn analyse(n: usize, joints: Joints, x: &[i16], out: &mut [i32])
     requires { T (offered n) × (length x.now ≡ n) × (length out.old ≡ n / 2) }
-    ensures { out.new ≡ double n (y n (rising left n) (falling right n) x.now) }
+    ensures { out.new ≡ double n (y n (rising joints.left n) (falling joints.right n) x.now) }
 {
+    // Which of the lengths: `if` and not `match`, whose last arm is told nothing of the numbers left out.
     if n == 36 {
-        double_36(left, right, x, out);
-        return;
+        double_of::<36, 18>(windows::window_36(), joints, x, out);
+    } else {
+        double_of::<72, 36>(windows::window_72(), joints, x, out);
     }
-    double_72(left, right, x, out);
 }

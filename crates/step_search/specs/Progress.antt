@@ -1,5 +1,5 @@
 -- A search as a value, from trial to trial: definitions of what the code hands on. That it answers as Search.antt says is in ProgressLaws.
-use Rattle.std.specs.Prelude.{Bool, cond, false, ℕ, ◌+◌, ◌-◌, eqb, ltb}
+use Rattle.std.specs.Prelude.{◌≡◌, Bool, cond, false, ℕ, ◌+◌, ◌-◌, ◌≤◌, eqb, ltb}
 use Rattle.step_search.specs.declared.Search.{Search}
 use Rattle.step_search.specs.declared.Found.{Found}
 use Rattle.step_search.specs.Search.{top, sure}
@@ -23,3 +23,7 @@ stopped s = record { step = s.step; trials = s.trials + 1; untried = 0 }
 -- the answer where no step passed
 abbrev pub ended : Search → Found
 ended s = record { step = s.least; trials = s.trials; untried = s.step - s.least }
+
+-- a test of the step tells what a trial answers, at each step that may be tried
+pub record Tells (trial : ℕ → Bool → Type 0) (pass : ℕ → Bool) : Type 0 where
+  pub each : (step : ℕ) (answer : Bool) → 16 ≤ step → step ≤ 1024 → trial step answer → answer ≡ pass step

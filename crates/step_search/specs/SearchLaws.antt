@@ -20,6 +20,9 @@ pub sure-top : (D : ℕ) → top ≤ 32 * D + 15 → sure D ≡ top
 unfolding sure
 sure-top D h = rw (le-ltb (32 * D + 15) top h)
 
+-- for the search
+pub ruleset sure_step = (sure_below, sure-top)
+
 -- it is a step that may be returned, and one that the told distance takes
 pub record Sure (D s : ℕ) : Type 0 where
   pub least : 15 ≤ s

@@ -1,10 +1,10 @@
-// The search for the coarsest step that passes (document 02, P13), as a value that a caller carries from trial to trial: what is tried next, whether to go on, and
-// what is answered. What a trial is, the caller knows. No function here is a public call: `coarsest` calls them, and a test program with a stand-in for a trial.
+// The search for the coarsest step that passes (document 02, P13): what is tried next, whether to go on, and what is answered. What a trial is, the caller knows.
+// No function here is a public call: `coarsest` calls `find_coarsest`, and a test program with a stand-in for a trial; a caller that makes its trials one at a time carries a `Search`.
 #![tactic(auto)]
 
-ghost use Rattle.std.specs.Prelude.{◌≡◌, ◌≤◌, ◌<◌};
-ghost use Rattle.step_search.specs.Search.{sure};
-ghost use Rattle.step_search.specs.Progress.{begun, unfinished, behind, stopped, ended};
+ghost use Rattle.std.specs.Prelude.{◌≡◌, ◌≤◌, ◌<◌, ℕ, Bool};
+ghost use Rattle.step_search.specs.Search.{sure, found};
+ghost use Rattle.step_search.specs.Progress.{begun, unfinished, behind, stopped, ended, Tells};
 
 // The coarsest step of all.
 const TOP: u32 = 1024;
@@ -19,7 +19,7 @@ pub struct Search {
 }
 
 // What a search answers: the step, the trials made, and how many untried steps lie above the step.
-#[derive(Clone, Copy)]
+#[derive(Clone, Copy, Debug, PartialEq, Eq)]
 pub struct Found {
     pub step: u32,
     pub trials: u32,
@@ -27,72 +27,89 @@ pub struct Found {
 }
 
 // The step that passes whatever the recording holds.
+#[tactic(auto, using(crate::specs::SearchLaws::sure_step))]
 fn sure(allowed: u32) -> u32
     requires { allowed ≤ 32 }
     ensures { result ≡ sure allowed }
 {
     let step = 32 * allowed + 15;
-    if step < TOP { step } else { TOP }
+    step.min(TOP)
 }
 
-// A search before its first trial.
-pub fn begin(allowed: u32, budget: usize) -> Search
-    requires { allowed ≤ 32 }
-    ensures { result ≡ begun allowed budget }
-{
-    let least = sure(allowed);
-    Search {
-        least: least,
-        step: TOP,
-        trials: 0,
-        left: budget,
+impl Search {
+    // Before the first trial.
+    pub fn begin(allowed: u32, budget: usize) -> Search
+        requires { allowed ≤ 32 }
+        ensures { result ≡ begun allowed budget }
+    {
+        Search {
+            least: sure(allowed),
+            step: TOP,
+            trials: 0,
+            left: budget,
+        }
+    }
+
+    // A step above the sure one is to be tried, and a trial may be made.
+    #[tactic(auto, unfolding(crate::specs::Progress::unfinished))]
+    pub fn is_unfinished(self) -> bool
+        ensures { result ≡ unfinished self }
+    {
+        self.left != 0 && self.least < self.step
+    }
+
+    // Behind a trial that failed.
+    pub fn after_failure(self) -> Search
+        requires { (0 < self.step) × (0 < self.left) × (self.trials < 1024) }
+        ensures { result ≡ behind self }
+    {
+        Search {
+            least: self.least,
+            step: self.step - 1,
+            trials: self.trials + 1,
+            left: self.left - 1,
+        }
+    }
+
+    // The answer behind a trial that passed: no step above it is untried.
+    pub fn after_success(self) -> Found
+        requires { self.trials < 1024 }
+        ensures { result ≡ stopped self }
+    {
+        let trials = self.trials + 1;
+        Found {
+            step: self.step,
+            trials,
+            untried: 0,
+        }
+    }
+
+    // The answer where no step passed: the sure step.
+    pub fn without_success(self) -> Found
+        requires { self.least ≤ self.step }
+        ensures { result ≡ ended self }
+    {
+        Found {
+            step: self.least,
+            trials: self.trials,
+            untried: self.step - self.least,
+        }
     }
 }
 
-// A step above the sure one is to be tried, and a trial may be made.
-pub fn is_unfinished(s: Search) -> bool
-    ensures { result ≡ unfinished s }
+// The coarsest step that passes, as far as a budget of trials goes, where `passes` is the trial: it is called with steps from 16 to 1,024. Where its answers are those of
+// a test, this is what the test's search finds.
+pub fn find_coarsest<F: Fn(u32) -> bool>(allowed: u32, budget: usize, passes: F) -> Found
+    requires allowed { allowed ≤ 32 }
+    requires callable { (step : ℕ) → 16 ≤ step → step ≤ 1024 → F.pre passes step }
+    ensures { (pass : ℕ → Bool) → Tells (F.post passes) pass → result ≡ found pass allowed budget }
 {
-    if s.left == 0 {
-        return false;
+    let mut search = Search::begin(allowed, budget);
+    while search.is_unfinished() {
+        if passes(search.step) {
+            return search.after_success();
+        }
+        search = search.after_failure();
     }
-    s.least < s.step
-}
-
-// The search behind a trial that failed.
-pub fn after_failure(s: Search) -> Search
-    requires { (0 < s.step) × (0 < s.left) × (s.trials < 1024) }
-    ensures { result ≡ behind s }
-{
-    Search {
-        least: s.least,
-        step: s.step - 1,
-        trials: s.trials + 1,
-        left: s.left - 1,
-    }
-}
-
-// The answer behind a trial that passed: no step above it is untried.
-pub fn after_success(s: Search) -> Found
-    requires { s.trials < 1024 }
-    ensures { result ≡ stopped s }
-{
-    let trials = s.trials + 1;
-    Found {
-        step: s.step,
-        trials,
-        untried: 0,
-    }
-}
-
-// The answer where no step passed: the sure step.
-pub fn without_success(s: Search) -> Found
-    requires { s.least ≤ s.step }
-    ensures { result ≡ ended s }
-{
-    Found {
-        step: s.least,
-        trials: s.trials,
-        untried: s.step - s.least,
-    }
+    search.without_success()
 }

@@ -1,4 +1,5 @@
 pub mod Table
+pub mod Answers
 pub mod Pass
 pub mod RowLaws
 pub mod VerdictLaws

@@ -1,23 +1,15 @@
 -- What the functions that go through a table once compute at each line, and what comes of it: definitions.
-use Rattle.std.specs.Prelude.{◌≡◌, true, false, cond, List, [], ◌∷◌, ℕ, zero, suc, ◌+◌, ◌≤◌, ◌<◌, eqb, ltb, length, take, drop, set}
-use Rattle.arithmetic.specs.Lists.{table}
+use Rattle.std.specs.Prelude.{◌≡◌, ◌≢◌, cond, List, [], ◌∷◌, ℕ, zero, suc, ◌+◌, ◌<◌, Option, IfSome, IfNone, eqb, ltb, length, drop, set}
 use Rattle.text.specs.Lines.{fields}
 use Rattle.text.specs.LineLaws.{part}
-use Rattle.steps.specs.declared.row.Line.{Line}
-use Rattle.steps.specs.declared.row.Cuts.{Cuts}
-use Rattle.steps.specs.declared.joint.Verdict.{Verdict}
-use Rattle.steps.specs.declared.TableRead.{TableRead}
-use Rattle.steps.specs.Table.{no_line, row_of, refused, taken, verdict, step_at}
+use Rattle.steps.specs.declared.row.Commas.{Commas}
+use Rattle.steps.specs.Table.{Line, no_line, row_of, Verdict, refused, taken}
 
 -- what `cut` answers: the three fields of the line, or that it has another number of them
-pub record IsCut (line : List ℕ) (r : Cuts) : Type 0 where
-  pub some : r.ok ≡ true → fields line ≡ part line 0 r.a ∷ part line (r.a + 1) r.b ∷ drop (r.b + 1) line ∷ []
-  pub less : r.ok ≡ true → (r.a < r.b) × (r.b < length line)
-  pub none : r.ok ≡ false → length (fields line) ≡ 3 → ⊥
-
--- none of it
-abbrev pub uncut : Cuts
-uncut = record { ok = false; a = 0; b = 0 }
+pub record IsCut (line : List ℕ) (r : Option Commas) : Type 0 where
+  pub some : IfSome r (λ c. fields line ≡ part line 0 c.a ∷ part line (c.a + 1) c.b ∷ drop (c.b + 1) line ∷ [])
+  pub less : IfSome r (λ c. (c.a < c.b) × (c.b < length line))
+  pub none : IfNone r (length (fields line) ≢ 3)
 
 -- the line from i to its line feed at e; a last line without its line feed is none
 unfoldable pub row_at : ℕ → List ℕ → ℕ → ℕ → Line
@@ -35,10 +27,3 @@ closing_fault fault next M = cond (eqb fault.code 0) (cond (eqb next M) taken (r
 unfoldable pub spread : ℕ → ℕ → ℕ → List ℕ → List ℕ
 spread zero p v xs = xs
 spread (suc n) p v xs = set (spread n p v xs) (p + n) v
-
--- what `read` answers for any bytes: the verdict, and the steps in front of room for those of the most places
-pub record IsRead (M : ℕ) (text : List ℕ) (r : TableRead) : Type 0 where
-  pub code_is : r.code ≡ (verdict M text).code
-  pub line_is : r.line ≡ (verdict M text).line
-  pub room : M ≤ length r.each
-  pub steps_are : (verdict M text).code ≡ 0 → take M r.each ≡ table M (step_at M text)

@@ -1,13 +1,18 @@
 -- Laws of a pass over a table that is taken: the coarsest step so far, and the steps written so far.
-use Rattle.std.specs.Prelude.{◌≡◌, refl, List, ℕ, zero, suc, ◌+◌, ◌-◌, ◌≤◌, ◌<◌, length, drop, set}
-use Rattle.std.proofs.Common.{sym, ap, ◌∙◌, arith, length-set, drop_of_length-le}
+use Rattle.std.specs.Prelude.{◌≡◌, refl, true, Some, List, [], ◌∷◌, ◌++◌, ℕ, zero, suc, ◌+◌, ◌-◌, ◌≤◌, ◌<◌, length, take, drop, set, replicate}
+use Rattle.std.proofs.Common.{sym, ap, ◌∙◌, arith, length-set, length-drop, drop_of_length-le, take-append-drop}
+use borrow.Rule.Slice.PartMut.{put_mid}
 use Rattle.arithmetic.specs.Lists.{table}
 use Rattle.arithmetic.specs.ListLaws.{Filled, filled_none, filled_more, filled-all}
-use Rattle.text.specs.Lines.{lines, split, ended}
-use Rattle.text.specs.LineLaws.{part}
-use Rattle.steps.specs.Table.{row_of, table_code, step_in, step_at, larger, coarsest_in, coarsest}
-use Rattle.steps.specs.Pass.{spread}
-use Rattle.steps.specs.RowLaws.{IsRow, row_is}
+use Rattle.text.specs.Bytes.{line_feed}
+use Rattle.text.specs.Lines.{index_of, lines, split, ended}
+use Rattle.text.specs.LineLaws.{part, end-most}
+use Rattle.steps.specs.declared.row.Row.{Row}
+use Rattle.steps.specs.Answers.{line_of}
+use Rattle.steps.specs.Table.{Line, row_of, table_code, step_in, step_at, larger, coarsest_in, coarsest}
+use Rattle.steps.specs.Pass.{row_at, spread}
+use Rattle.steps.specs.RowLaws.{IsRow, row_is, row_apart}
+use Rattle.steps.specs.VerdictLaws.{ended-row}
 use Rattle.steps.specs.TakenLaws.{Left, Next, left-whole, left_end}
 use Rattle.steps.specs.StepLaws.{step-here, step-later, larger-three, larger-none, larger-first, coarsest-none, coarsest-more}
 
@@ -54,6 +59,26 @@ spread-more k p v xs h =
     let z : k + 1 - p ≡ suc (k - p) = omega arith in
     let y : p + (k - p) ≡ k = omega arith in
     rw (z, y)
+
+-- what the code writes: n entries from place p on
+filled_next : (n v : ℕ) (d : List ℕ) → n < length d → set (replicate n v ++ drop n d) n v ≡ replicate (suc n) v ++ drop (suc n) d
+filled_next n v [] h = absurd (omega arith)
+filled_next zero v (x ∷ d) h = refl
+filled_next (suc n) v (x ∷ d) h = ap (λ (l : List ℕ). v ∷ l) (filled_next n v d (omega arith))
+
+set_behind : (p n v : ℕ) (xs ys : List ℕ) → p ≤ length xs → set (take p xs ++ ys) (p + n) v ≡ take p xs ++ set ys n v
+set_behind zero n v xs ys h = let e : 0 + n ≡ n = omega arith in rw e
+set_behind (suc p) n v [] ys h = absurd (omega arith)
+set_behind (suc p) n v (x ∷ xs) ys h = let e : suc p + n ≡ suc (p + n) = omega arith in rw e (ap (λ (l : List ℕ). x ∷ l) (set_behind p n v xs ys (omega arith)))
+
+pub spread_put : (n p v : ℕ) (xs : List ℕ) → p + n ≤ length xs → put_mid p n xs (replicate n v) ≡ spread n p v xs
+unfolding spread
+spread_put zero p v xs h = take-append-drop p xs
+spread_put (suc n) p v xs h =
+    sym
+    (ap (λ (l : List ℕ). set l (p + n) v) (sym (spread_put n p v xs (omega arith)))
+    ∙ set_behind p n v xs (replicate n v ++ drop n (drop p xs)) (omega arith)
+    ∙ ap (λ (l : List ℕ). take p xs ++ l) (filled_next n v (drop p xs) (omega (arith, length-drop p xs))))
 
 spread-filled : (f : ℕ → ℕ) (n p v : ℕ) (xs xs₀ : List ℕ) → Filled f p xs xs₀ → p + n ≤ length xs → ((k : ℕ) → p ≤ k → k < p + n → f k ≡ v) → Filled f (p + n) (spread n p v xs) xs₀
 unfolding spread
@@ -103,3 +128,28 @@ module _ {M : ℕ} {s : List ℕ} {i next : ℕ} {out out₀ : List ℕ} (c : Fi
     pub filling_line : (next' : ℕ) (out' : List ℕ) → next' ≡ (row_of M (part s i e)).last + 1 →
         out' ≡ spread ((row_of M (part s i e)).last + 1 - (row_of M (part s i e)).first) (row_of M (part s i e)).first (row_of M (part s i e)).step out → Filling M s (e + 1) next' out' out₀
     filling_line next' out' a b = rw (a, b, n.starts) filling_next
+
+-- ---- a line that is read, with its line feed at e
+pub record Read (M : ℕ) (s : List ℕ) (i e : ℕ) (r : Row) : Type 0 where
+  pub less : e < length s
+  pub apart : i < e
+  pub is : line_of (Some r) ≡ row_of M (part s i e)
+  pub ok : (row_of M (part s i e)).ok ≡ true
+  pub ordered : r.first ≤ r.last
+  pub inside : r.last < M
+
+pub read_is : (M : ℕ) (s : List ℕ) (i e : ℕ) (r : Row) → 0 < M → i ≤ length s → e ≡ i + index_of line_feed (drop i s) → line_of (Some r) ≡ row_at M s i e → Read M s i e r
+read_is M s i e r some within is said =
+    let most = end-most line_feed s i e within is in
+    let ended = ended-row M s i e most (ap (λ (x : Line). x.ok) (sym said)) in
+    let row = said ∙ ended.is in
+    let ok : (row_of M (part s i e)).ok ≡ true = ap (λ (x : Line). x.ok) (sym row) in
+    let ranges = row_is M (part s i e) some ok in
+    record {
+      less = ended.less;
+      apart = row_apart M s i e (omega (arith, is)) most ok;
+      is = row;
+      ok = ok;
+      ordered = omega (arith, ranges.ordered, ap (λ (x : Line). x.first) row, ap (λ (x : Line). x.last) row);
+      inside = omega (arith, ranges.inside, ap (λ (x : Line). x.last) row);
+    }

@@ -1,9 +1,9 @@
 -- Laws of a line of the table: its two commas, its numbers, and their ranges, `row_is`.
-use Rattle.std.specs.Prelude.{◌≡◌, refl, Bool, true, false, not, cond, ◌&&◌, ℕ, ◌+◌, ◌-◌, ◌≤◌, ◌<◌, T, eqb, get_or, ℤ, pos, negsuc, nat_abs, ◌≤ℤ◌}
+use Rattle.std.specs.Prelude.{◌≡◌, refl, Bool, true, false, not, cond, ◌&&◌, ℕ, Some, None, ◌+◌, ◌-◌, ◌≤◌, ◌<◌, T, eqb, get_or, ℤ, pos, negsuc, nat_abs, ◌≤ℤ◌}
 use Rattle.std.proofs.Common.{sym, ◌∙◌, arith, ne_eqb}
 use Rattle.std.proofs.Math.Path.{ap}
 use mathlib.Core.List.{List, [], ◌∷◌}
-use Rattle.std.proofs.Math.ListN.{length, drop, length-drop}
+use Rattle.std.proofs.Math.ListN.{length, take, drop, length-drop}
 use Rattle.std.proofs.Math.Seq.{take_all}
 use Rattle.std.specs.Int.Signed.{lt_z, le_z, le_z_yes}
 use Rattle.arithmetic.specs.IntegerLaws.{le_ℕ}
@@ -15,22 +15,19 @@ use Rattle.text.specs.NumberLaws.{number_wider}
 use Rattle.text.specs.Bytes.{comma}
 use Rattle.text.specs.Lines.{index_of, split, fields}
 use Rattle.text.specs.LineLaws.{part, part-found, part-last, end-most, split-some}
-use Rattle.steps.specs.declared.row.Line.{Line}
-use Rattle.steps.specs.declared.row.Cuts.{Cuts}
-use Rattle.steps.specs.Table.{digits, bounded, no_line, numbers_of, row_of}
-use Rattle.steps.specs.Pass.{IsCut, uncut}
+use Rattle.steps.specs.declared.row.Commas.{Commas}
+use Rattle.steps.specs.Table.{digits, bounded, Line, no_line, numbers_of, row_of}
+use Rattle.steps.specs.Answers.{number_within}
+use Rattle.steps.specs.Pass.{IsCut}
 
-no_cut : (line : List ℕ) → (length (fields line) ≡ 3 → ⊥) → IsCut line uncut
-no_cut line h = record { some = λ e. absurd (clash e); less = λ e. absurd (clash e); none = λ e. h }
-  where
-    clash : false ≡ true → ⊥
-    clash e = let z : ◌≡◌ {A = ℕ} 0 1 = cc in omega arith
+no_cut : (line : List ℕ) → (length (fields line) ≡ 3 → ⊥) → IsCut line None
+no_cut line h = record { some = tt; less = tt; none = h }
 
 module _ (line : List ℕ) (a : ℕ) (ia : a ≡ 0 + index_of comma (drop 0 line)) where
   pub a-most : a ≤ length line
   a-most = end-most comma line 0 a (omega arith) ia
 
-  pub cut_one : a ≡ length line → IsCut line uncut
+  pub cut_one : a ≡ length line → IsCut line None
   unfolding fields
   cut_one h = no_cut line (λ (z : length (split comma line) ≡ 3). omega (arith, z, ap length (part-last comma line 0 a (omega arith) ia h)))
 
@@ -44,7 +41,7 @@ module _ (line : List ℕ) (a : ℕ) (ia : a ≡ 0 + index_of comma (drop 0 line
     pub b-most : b ≤ length line
     b-most = end-most comma line (a + 1) b in_b ib
 
-    pub cut_two : b ≡ length line → IsCut line uncut
+    pub cut_two : b ≡ length line → IsCut line None
     unfolding fields
     cut_two h = no_cut line (λ (z : length (split comma line) ≡ 3). omega (arith, z, ap length after-a, ap length (part-last comma line (a + 1) b in_b ib h)))
 
@@ -55,22 +52,19 @@ module _ (line : List ℕ) (a : ℕ) (ia : a ≡ 0 + index_of comma (drop 0 line
       in_c : b + 1 ≤ length line
       in_c = omega arith
 
-      pub cut_three : c ≡ length line → IsCut line (record { ok = true; a = a; b = b })
+      pub cut_three : c ≡ length line → IsCut line (Some (record { a = a; b = b }))
       unfolding fields
       cut_three h =
           record {
-            some = λ e. after-a ∙ rw (after-b, part-last comma line (b + 1) c in_c ic h) (ap (λ (l : List ℕ). part line 0 a ∷ part line (a + 1) b ∷ l ∷ []) (whole h));
-            less = λ e. (omega (arith, ib), hb);
-            none = λ e. absurd (clash e);
+            some = after-a ∙ rw (after-b, part-last comma line (b + 1) c in_c ic h) (ap (λ (l : List ℕ). part line 0 a ∷ part line (a + 1) b ∷ l ∷ []) (whole h));
+            less = (omega (arith, ib), hb);
+            none = tt;
           }
         where
           whole : c ≡ length line → part line (b + 1) c ≡ drop (b + 1) line
           whole h = take_all (c - (b + 1)) (drop (b + 1) line) (omega (arith, length-drop (b + 1) line))
 
-          clash : true ≡ false → ⊥
-          clash e = let z : ◌≡◌ {A = ℕ} 0 1 = cc in omega arith
-
-      pub cut_more : (c ≡ length line → ⊥) → IsCut line uncut
+      pub cut_more : (c ≡ length line → ⊥) → IsCut line None
       unfolding fields
       cut_more h =
           let hc : c < length line = omega (arith, h, end-most comma line (b + 1) c in_c ic) in
@@ -107,6 +101,14 @@ bounded-size lo hi f e = let r = bounded_range (pos lo) (pos hi) f e in by (valu
     by (pos n) a b = omega (arith, le_ℕ b)
     by (negsuc n) a b = absurd (omega (arith, le_ℕ a))
 
+-- the number that is read so
+pub within_size : (lo hi : ℕ) (f : List ℕ) (v : ℤ) → Some v ≡ number_within (pos lo) (pos hi) f → nat_abs v ≤ hi
+within_size lo hi f v e = by (bounded (pos lo) (pos hi) f) refl e
+  where
+    by : (t : Bool) → bounded (pos lo) (pos hi) f ≡ t → Some v ≡ cond t (Some (value f)) None → nat_abs v ≤ hi
+    by true p e = let q : v ≡ value f = cc in rw q (bounded-size lo hi f p)
+    by false p e = let z : ◌≡◌ {A = ℕ} 0 1 = cc in absurd (omega arith)
+
 module _ (M : ℕ) (f l s : List ℕ) where
   pub numbers-first : bounded (pos 0) (pos (M - 1)) f ≡ false → no_line ≡ numbers_of M f l s
   unfolding numbers_of
@@ -127,13 +129,17 @@ module _ (M : ℕ) (f l s : List ℕ) where
       numbers-all x y z i j k e = rw (p, q, e, i, j, k)
 
 -- ---- the line
-pub row-none : (M : ℕ) (line : List ℕ) (r : Cuts) → IsCut line r → r.ok ≡ false → no_line ≡ row_of M line
+pub row-none : (M : ℕ) (line : List ℕ) → IsCut line None → no_line ≡ row_of M line
 unfolding row_of
-row-none M line r o e = rw (ne_eqb (length (fields line)) 3 (o.none e))
+row-none M line o = rw (ne_eqb (length (fields line)) 3 o.none)
 
-pub row-some : (M : ℕ) (line : List ℕ) (r : Cuts) → IsCut line r → r.ok ≡ true → numbers_of M (part line 0 r.a) (part line (r.a + 1) r.b) (drop (r.b + 1) line) ≡ row_of M line
+pub row-some : (M : ℕ) (line : List ℕ) (c : Commas) → IsCut line (Some c) → numbers_of M (part line 0 c.a) (part line (c.a + 1) c.b) (drop (c.b + 1) line) ≡ row_of M line
 unfolding row_of
-row-some M line r o e = rw (o.some e)
+row-some M line c o = rw o.some
+
+-- the first field, as the code takes it
+pub first_part : (x : List ℕ) (a : ℕ) → take a x ≡ part x 0 a
+first_part x a = let e : a - 0 ≡ a = omega arith in rw e
 
 -- ---- the ranges of a line's numbers
 pub record IsRow (M : ℕ) (r : Line) : Type 0 where

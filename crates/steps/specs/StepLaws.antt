@@ -1,5 +1,5 @@
 -- Laws of the steps: where a line gives a place its step, and how large a step and the coarsest are.
-use Rattle.std.specs.Prelude.{◌≡◌, Bool, ◌&&◌, ℕ, ◌+◌, ◌≤◌, ◌<◌, ltb}
+use Rattle.std.specs.Prelude.{◌≡◌, Bool, ◌&&◌, ℕ, ◌+◌, ◌≤◌, ◌<◌, max, ltb}
 use Rattle.std.proofs.Math.Path.{refl}
 use Rattle.std.proofs.Math.Bool.{true, false, cond}
 use mathlib.Core.List.{List, [], ◌∷◌}
@@ -48,6 +48,11 @@ larger-most a b c p q = by (ltb a b)
     by : (t : Bool) → cond t b a ≤ c
     by true = q
     by false = p
+
+pub larger_max : (a b : ℕ) → max a b ≡ larger a b
+larger_max a b =
+    let p = larger-most a b (max a b) (omega arith) (omega arith) in
+    omega (arith, larger-left a b, larger-right a b)
 
 -- the larger of three, whichever are taken first
 pub larger-three : (a b c : ℕ) → larger a (larger b c) ≡ larger (larger a b) c

@@ -3,8 +3,6 @@ use Rattle.std.specs.Prelude.{◌≡◌, Bool, true, false, not, cond, ◌&&◌,
 use Rattle.std.specs.Int.Signed.{le_z, lt_z}
 use Rattle.text.specs.Number.{is_number, value}
 use Rattle.text.specs.Lines.{fields, lines, remainder}
-use Rattle.steps.specs.declared.row.Line.{Line}
-use Rattle.steps.specs.declared.joint.Verdict.{Verdict}
 
 -- ---- a line: first coefficient, last coefficient, step
 -- the most digits of a number, as in a listing
@@ -14,6 +12,13 @@ digits = 5
 -- a number of that form, from least to most
 unfoldable pub bounded : ℤ → ℤ → List ℕ → Bool
 bounded least most field = is_number digits field && (not (lt_z (value field) least) && le_z (value field) most)
+
+-- a line: whether it is one, and its numbers; all are 0 where it is none
+pub record Line : Type 0 where
+  pub ok : Bool
+  pub first : ℕ
+  pub last : ℕ
+  pub step : ℕ
 
 -- what is no line
 abbrev pub no_line : Line
@@ -32,6 +37,11 @@ unfoldable pub row_of : ℕ → List ℕ → Line
 row_of M line = cond (eqb (length (fields line)) 3) (numbers_of M (get_or (fields line) 0 []) (get_or (fields line) 1 []) (get_or (fields line) 2 [])) no_line
 
 -- ---- the verdict
+-- 9, 10 or 11 with a line counted from 1, or 0 with line 0. A table that ends too early is 10 with line 0
+pub record Verdict : Type 0 where
+  pub code : ℕ
+  pub line : ℕ
+
 abbrev pub refused : ℕ → ℕ → Verdict
 refused code at = record { code = code; line = at }
 

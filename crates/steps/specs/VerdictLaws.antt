@@ -9,8 +9,7 @@ use Rattle.std.proofs.Math.ListN.{length, length-drop}
 use Rattle.text.specs.Bytes.{line_feed}
 use Rattle.text.specs.Lines.{index_of, split, ended, unended, lines, remainder}
 use Rattle.text.specs.LineLaws.{part, end-most, line-found, line-none, remainder-found, remainder-none}
-use Rattle.steps.specs.declared.joint.Verdict.{Verdict}
-use Rattle.steps.specs.Table.{no_line, row_of, refused, taken, malformed, joints, by_lines, verdict}
+use Rattle.steps.specs.Table.{no_line, row_of, Verdict, refused, taken, malformed, joints, by_lines, verdict}
 use Rattle.steps.specs.Pass.{row_at, joint_fault, closing_fault}
 
 -- ---- the line from i to e

@@ -1,46 +1,34 @@
-// The joints between lines: the verdict so far, one line more, and the end.
+// The joints between lines: what is found so far, with one line more, and the end.
 ghost use Rattle.std.specs.Prelude.{◌≡◌};
-ghost use Rattle.steps.specs.Table.{refused as Table·refused};
 ghost use Rattle.steps.specs.Pass.{joint_fault, closing_fault};
+ghost use Rattle.steps.specs.Answers.{verdict_of};
 
-// What a table is: 9, 10 or 11 with a line counted from 1, or 0 with line 0. A table that ends too early is 10 with line 0.
-#[derive(Clone, Copy)]
-pub struct Verdict {
-    pub code: u32,
-    pub line: usize,
-}
+use crate::fault::Fault;
+use refusals::Refusal;
 
-pub fn refused(code: u32, line: usize) -> Verdict
-    ensures { result ≡ Table·refused code line }
+// What is found with one line more, which starts at `first`. The first fault stays, since later lines are still read for 9.
+#[tactic(auto, unfolding(crate::specs::Pass::joint_fault))]
+pub fn joint(found: Result<(), Fault>, line: usize, next: usize, first: usize) -> Result<(), Fault>
+    ensures { verdict_of result ≡ joint_fault (verdict_of found) line next first }
 {
-    Verdict { code, line }
-}
-
-// The verdict so far with one line more, which starts at `first`. The first fault stays, since later lines are still tested for 9.
-pub fn joint(fault: Verdict, line: usize, next: usize, first: usize) -> Verdict
-    ensures { result ≡ joint_fault fault line next first }
-{
-    if fault.code != 0 {
-        return fault;
-    }
+    found?;
     if next < first {
-        return refused(10, line);
+        return Err(Fault::new(Refusal::Gap, line));
     }
     if first < next {
-        return refused(11, line);
+        return Err(Fault::new(Refusal::Overlap, line));
     }
-    fault
+    Ok(())
 }
 
-// The verdict behind the last line.
-pub fn closing(fault: Verdict, next: usize, m: usize) -> Verdict
-    ensures { result ≡ closing_fault fault next m }
+// What is found behind the last line.
+#[tactic(auto, unfolding(crate::specs::Pass::closing_fault))]
+pub fn closing(found: Result<(), Fault>, next: usize, m: usize) -> Result<(), Fault>
+    ensures { verdict_of result ≡ closing_fault (verdict_of found) next m }
 {
-    if fault.code != 0 {
-        return fault;
-    }
+    found?;
     if next == m {
-        return refused(0, 0);
+        return Ok(());
     }
-    refused(10, 0)
+    Err(Fault::new(Refusal::Gap, 0))
 }

@@ -1,40 +1,25 @@
 // A line of a step table: its three fields, and its numbers where it is one.
-ghost use Rattle.std.specs.Prelude.{◌≡◌, ◌≤◌, ◌<◌, ◌-◌, pos, length};
-ghost use Rattle.steps.specs.Table.{bounded, no_line, numbers_of, row_of};
-ghost use Rattle.steps.specs.Pass.{uncut, IsCut, row_at};
+ghost use Rattle.std.specs.Prelude.{◌≡◌, ◌≤◌, ◌<◌, ◌-◌, ◌≤ℤ◌, IfSome, pos, length};
+ghost use Rattle.steps.specs.Table.{bounded, numbers_of, row_of};
+ghost use Rattle.steps.specs.Pass.{IsCut, row_at};
+ghost use Rattle.steps.specs.Answers.{line_of, number_within};
 
 use text::line::{COMMA, find};
-use text::number::{is_number, value};
+use text::number::{DIGITS, is_number, value};
 
-// The most digits of a number, as in a listing.
-const DIGITS: usize = 5;
-
-// A line: whether it is one, and its numbers; all are 0 where it is none.
-#[derive(Clone, Copy)]
-pub struct Line {
-    pub ok: bool,
+/// The numbers of a line: the first and the last coefficient that it covers, and their step.
+#[derive(Clone, Copy, Debug, PartialEq, Eq)]
+pub struct Row {
     pub first: usize,
     pub last: usize,
     pub step: u32,
 }
 
-// Whether a line has three fields, and where its commas are.
+// Where the two commas of a line are.
 #[derive(Clone, Copy)]
-pub struct Cuts {
-    pub ok: bool,
+pub struct Commas {
     pub a: usize,
     pub b: usize,
-}
-
-fn no_line() -> Line
-    ensures { result ≡ no_line }
-{
-    Line {
-        ok: false,
-        first: 0,
-        last: 0,
-        step: 0,
-    }
 }
 
 // A number from least to most.
@@ -51,32 +36,33 @@ fn is_bounded(field: &[u8], least: i64, most: i64) -> bool
     v <= most
 }
 
-fn no_cut() -> Cuts
-    ensures { result ≡ uncut }
+// The number of a field, where it is one from least to most.
+fn bounded_number(field: &[u8], least: i64, most: i64) -> Option<i64>
+    ensures { result ≡ number_within least most field.now }
 {
-    Cuts {
-        ok: false,
-        a: 0,
-        b: 0,
+    if is_bounded(field, least, most) {
+        Some(value(field))
+    } else {
+        None
     }
 }
 
 // Where the two commas of a line are, where it has just two.
-fn cut(line: &[u8]) -> Cuts
+fn cut(line: &[u8]) -> Option<Commas>
     ensures { IsCut line.now result }
 {
     let a = find(line, 0, COMMA);
     if a == line.len() {
-        return no_cut();
+        return None;
     }
     let b = find(line, a + 1, COMMA);
     if b == line.len() {
-        return no_cut();
+        return None;
     }
     if find(line, b + 1, COMMA) == line.len() {
-        return Cuts { ok: true, a, b };
+        return Some(Commas { a, b });
     }
-    no_cut()
+    None
 }
 
 // The last place, as a number with a sign.
@@ -88,54 +74,40 @@ fn last_place(m: usize) -> i64
 }
 
 // The numbers of three fields where they make a line.
-fn numbers(f: &[u8], l: &[u8], s: &[u8], m: usize) -> Line
+#[tactic(auto, unfolding(crate::specs::Table::numbers_of))]
+fn numbers(f: &[u8], l: &[u8], s: &[u8], m: usize) -> Option<Row>
     requires { (0 < m) × (m ≤ 108) }
-    ensures { result ≡ numbers_of m f.now l.now s.now }
+    ensures { line_of result ≡ numbers_of m f.now l.now s.now }
 {
     let most = last_place(m);
-    if !is_bounded(f, 0, most) {
-        return no_line();
-    }
-    let first = value(f);
-    if !is_bounded(l, first, most) {
-        return no_line();
-    }
-    if !is_bounded(s, 1, 65536) {
-        return no_line();
-    }
-    let a = arithmetic::size(first);
-    let b = arithmetic::size(value(l));
-    let c = arithmetic::size(value(s));
-    Line {
-        ok: true,
-        first: a as usize,
-        last: b as usize,
-        step: c as u32,
-    }
+    let first = bounded_number(f, 0, most)?;
+    let last = bounded_number(l, first, most)?;
+    let step = bounded_number(s, 1, 65536)?;
+    Some(Row {
+        first: arithmetic::size(first) as usize,
+        last: arithmetic::size(last) as usize,
+        step: arithmetic::size(step) as u32,
+    })
 }
 
 // A line's numbers where it is one.
-pub fn row(line: &[u8], m: usize) -> Line
+pub fn read_row(line: &[u8], m: usize) -> Option<Row>
     requires { (0 < m) × (m ≤ 108) }
-    ensures { result ≡ row_of m line.now }
+    ensures { line_of result ≡ row_of m line.now }
 {
-    let c = cut(line);
-    let a = c.a;
-    let b = c.b;
-    if !c.ok {
-        return no_line();
-    }
-    numbers(&line[0..a], &line[a + 1..b], &line[b + 1..], m)
+    let Commas { a, b } = cut(line)?;
+    numbers(&line[..a], &line[a + 1..b], &line[b + 1..], m)
 }
 
 // The line from a place to its line feed. A last line without its line feed is none.
-pub fn row_at(table: &[u8], at: usize, end: usize, m: usize) -> Line
+#[tactic(auto, unfolding(crate::specs::Pass::row_at))]
+pub fn read_row_at(table: &[u8], at: usize, end: usize, m: usize) -> Option<Row>
     requires m_nonzero { (0 < m) × (m ≤ 108) }
     requires at_le_end { (at ≤ end) × (end ≤ length table.now) }
-    ensures { result ≡ row_at m table.now at end }
+    ensures { line_of result ≡ row_at m table.now at end }
 {
     if end == table.len() {
-        return no_line();
+        return None;
     }
-    row(&table[at..end], m)
+    read_row(&table[at..end], m)
 }

@@ -12,7 +12,7 @@ use Rattle.cosine.specs.Kernels.{tabled, rising, falling}
 use Rattle.cosine.specs.LengthLaws.{Part}
 use Rattle.cosine.specs.KernelLaws.{rising-size, falling-size}
 use Rattle.transform.specs.Synthesis.{V'}
-use Rattle.transform.specs.Stages.{Ready}
+use Rattle.transform.specs.Stages.{Input}
 use Rattle.transform.specs.SizeLaws.{V_size}
 use Rattle.stream.specs.Synthesis.{storage, sample, hop, new_tail}
 
@@ -30,7 +30,7 @@ pub record Step (N : ℕ) (x tail out : List ℤ) : Type 0 where
   pub part : Part N
   pub divides : T (splits N)
   pub most : N ≤ 2 * storage
-  pub ready : Ready N x
+  pub input : Input N x
   pub stored : length tail ≡ storage
   pub bounded : Bounded (N / 2) tail
   pub room : length out ≡ N / 2

@@ -11,11 +11,13 @@ ghost use Rattle.transform.specs.Synthesis.{V'};
 ghost use Rattle.stream.specs.Synthesis.{storage, fresh, hop, new_tail};
 ghost use Rattle.stream.specs.StepLaws.{Held, Step};
 
+use windows::Joints;
+
 // Entries of a tail: a hop of the longest block.
 pub const STORAGE: usize = 108;
 
 // A stream, document 01's term: the block length N, the number of the block that it expects (document 02, P6; 2^32 for none, behind the last number of 32
-// bits), the shape of the joint that it ends with (P7), and a tail of M whole numbers. Storage from M on is zero when fresh, and kept.
+// bits), the shape of the joint that it ends with (P7), a number, since a caller may forge one, and a tail of M whole numbers. Storage from M on is zero when fresh, and kept.
 #[derive(Clone, Copy)]
 pub struct Stream {
     pub n: usize,
@@ -55,6 +57,7 @@ fn fill_hop(n: usize, tail: &[i64], v: &[i64], out: &mut [i16])
     requires out_len { length out.old ≡ n / 2 }
     ensures { out.new ≡ table (n / 2) (λ i. clamp (rnd (at tail.now i +ℤ at v.now i) (n * 2 ^ 30))) }
 {
+    // by index, up to n / 2: where n is known, the compiler knows this count, and no slice's
     for i in 0..n / 2 {
         out[i] = sample(n, tail[i], v[i]);
     }
@@ -67,25 +70,15 @@ fn shift(m: usize, v: &[i64], tail: &mut [i64])
     requires tail_room { m ≤ length tail.old }
     ensures { tail.new ≡ table m (λ i. at v.now (m + i)) ++ drop m tail.old }
 {
-    for i in 0..m {
-        tail[i] = v[m + i];
-    }
+    tail[..m].copy_from_slice(&v[m..2 * m]);
 }
 
-// A step from V, of the coefficients x of a block with joints of the shapes left and right: the hop into `out`, and the new tail in place.
-pub fn settle(
-    n: usize,
-    left: u32,
-    right: u32,
-    x: &[i32],
-    v: &[i64],
-    tail: &mut [i64],
-    out: &mut [i16],
-)
+// A step from V, of the coefficients x of a block with joints of these shapes: the hop into `out`, and the new tail in place.
+pub fn settle(n: usize, joints: Joints, x: &[i32], v: &[i64], tail: &mut [i64], out: &mut [i16])
     requires step { Step n x.now tail.old out.old }
-    requires v_value { v.now ≡ table n (V' n (rising left n) (falling right n) x.now) }
-    ensures tail_after { tail.new ≡ new_tail n (rising left n) (falling right n) tail.old x.now }
-    ensures out_after { out.new ≡ hop n (rising left n) (falling right n) tail.old x.now }
+    requires v_value { v.now ≡ table n (V' n (rising joints.left n) (falling joints.right n) x.now) }
+    ensures tail_after { tail.new ≡ new_tail n (rising joints.left n) (falling joints.right n) tail.old x.now }
+    ensures out_after { out.new ≡ hop n (rising joints.left n) (falling joints.right n) tail.old x.now }
 {
     fill_hop(n, tail, v, out);
     shift(n / 2, v, tail);

@@ -1,2 +1,5 @@
+pub mod Answers
 pub mod Streams
+pub mod States
 pub mod StreamLaws
+pub mod StateLaws

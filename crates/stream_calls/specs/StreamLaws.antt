@@ -18,9 +18,9 @@ use Rattle.checks.specs.CauseLaws.{first_is, leaves, spared, Passed, passed}
 use Rattle.checks.specs.Limits.{within, tail_limit, are_shapes}
 use Rattle.stream_calls.specs.Streams.{sound_tail, sound, fits, step_causes, step_code, step, step_out, stream_of}
 
-tail-bounded : (M : ℕ) (tail : List ℤ) → all M (λ i. within (at tail i) (tail_limit M)) ≡ true → Bounded M tail
+pub tail_bounded : (M : ℕ) (tail : List ℤ) → all M (λ i. within (at tail i) (tail_limit M)) ≡ true → Bounded M tail
 unfolding tail_limit
-tail-bounded M tail e =
+tail_bounded M tail e =
     record { within = λ i p. within_abs (at tail i) (M * 2 ^ 55) (all-at M (λ i. within (at tail i) (M * 2 ^ 55)) (is_T e) i p) }
 
 pub sound-tabled : (s : Stream) → sound s ≡ true → T (tabled s.n)
@@ -29,7 +29,7 @@ sound-tabled s e = both_left (tabled s.n) (sound_tail s) (is_T e)
 
 pub sound-bounded : (s : Stream) → sound s ≡ true → Bounded (s.n / 2) s.tail
 unfolding sound sound_tail
-sound-bounded s e = tail-bounded (s.n / 2) s.tail (is_true (both_right (tabled s.n) (sound_tail s) (is_T e)))
+sound-bounded s e = tail_bounded (s.n / 2) s.tail (is_true (both_right (tabled s.n) (sound_tail s) (is_T e)))
 
 -- ---- a step by its causes
 module _ (s : Stream) (number l r : ℕ) (x out : List ℤ) where

@@ -7,8 +7,8 @@ use Rattle.stream.specs.Synthesis as S
 use Rattle.stream.specs.Steps.{next, hop}
 use Rattle.checks.specs.Limits.{within, tail_limit, in_range, are_shapes}
 use Rattle.checks.specs.Causes.{Cause, ◌unless◌, first_cause}
-use Rattle.stream_calls.specs.declared.Made.{Made}
-use Rattle.stream_calls.specs.declared.Stepped.{Stepped}
+use Rattle.stream_calls.specs.Answers.{Made}
+use Rattle.stream_calls.specs.Answers.{Stepped}
 
 -- `fresh`: 0 and a fresh stream, or 1, and N, the expected number, the expected shape and every tail entry 0
 unfoldable pub fresh : ℕ → Made

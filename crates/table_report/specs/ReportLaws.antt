@@ -12,7 +12,7 @@ use Rattle.text.specs.Bytes.{line_feed, comma}
 use Rattle.text.specs.Number.{is_number, value, decimal}
 use Rattle.text.specs.Lines.{line, more}
 use Rattle.text.specs.Refusal.{refusal}
-use Rattle.steps.specs.declared.joint.Verdict.{Verdict}
+use Rattle.steps.specs.Table.{Verdict}
 use Rattle.steps.specs.Table.{digits, verdict}
 use Rattle.table_report.specs.Report.{length_in, length_of, saying, distance_line, offered_line, taken_lines, by_table, report_of}
 

@@ -1,5 +1,6 @@
 pub mod Bytes
 pub mod Number
+pub mod Outputs
 pub mod Lines
 pub mod Columns
 pub mod Buffers

@@ -4,7 +4,7 @@ ghost use Rattle.text.specs.Bytes.{blank};
 ghost use Rattle.text.specs.Number.{decimal, printed};
 ghost use Rattle.text.specs.Columns.{aligned};
 
-use crate::number::put_number;
+use crate::output::Output;
 
 const BLANK: u8 = b' ';
 
@@ -12,33 +12,22 @@ const BLANK: u8 = b' ';
 pub fn put_blanks(out: &mut [u8])
     ensures { out.new ≡ replicate (length out.old) blank }
 {
-    for i in 0..out.len() {
-        out[i] = BLANK;
-    }
+    out.fill(BLANK);
 }
 
 // How many digits n has.
 fn digits(n: u64) -> usize
     ensures { result ≡ length (decimal n) }
 {
-    let mut left = n;
-    let mut count: usize = 1;
-    while left >= 10 {
-        left = left / 10;
-        count += 1;
-    }
-    count
+    n.max(1).ilog10() as usize + 1
 }
 
 // How many bytes a number is printed as.
 fn width(v: i64) -> usize
     ensures { result ≡ length (printed v) }
 {
-    let count = digits(arithmetic::size(v));
-    if v < 0 {
-        return count + 1;
-    }
-    count
+    let count = digits(v.unsigned_abs());
+    if v < 0 { count + 1 } else { count }
 }
 
 // Puts a number into columns, at their end, with blanks in front.
@@ -48,5 +37,5 @@ pub fn put_aligned(v: i64, out: &mut [u8])
 {
     let at = out.len() - width(v);
     put_blanks(&mut out[..at]);
-    put_number(v, out, at);
+    Output { bytes: out, at }.number(v);
 }

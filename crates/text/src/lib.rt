@@ -5,5 +5,4 @@
 pub mod columns;
 pub mod line;
 pub mod number;
-pub mod print;
-pub mod refusal;
+pub mod output;

@@ -6,19 +6,19 @@ pub const LINE_FEED: u8 = b'\n';
 
 pub const COMMA: u8 = b',';
 
-// The place of the first byte b at or behind a place, and the length where there is none.
+// The place of the first byte b, and the length where there is none.
+fn index_of(s: &[u8], b: u8) -> usize
+    ensures { result ≡ index_of b s.now }
+{
+    s.iter().position(|x| *x == b).unwrap_or(s.len())
+}
+
+// The same at or behind a place.
 pub fn find(s: &[u8], from: usize, b: u8) -> usize
     requires { from ≤ length s.now }
     ensures { result ≡ from + index_of b (drop from s.now) }
 {
-    let mut i = from;
-    while i < s.len() {
-        if s[i] == b {
-            return i;
-        }
-        i += 1;
-    }
-    i
+    from + index_of(&s[from..], b)
 }
 
 // The place behind the line that starts at a place.

@@ -12,7 +12,7 @@ use Rattle.cosine.specs.KernelLaws.{F_symmetric}
 use Rattle.transform.specs.Analysis.{window, y, S, X, direct}
 use Rattle.transform.specs.FoldLaws.{folded, S-folded}
 use Rattle.transform.specs.SizeLaws.{window-left, window-right}
-use Rattle.tables.specs.HalfLaws.{rise_list, fall_list, rise_at, fall_at}
+use Rattle.windows.specs.HalfLaws.{rise_list, fall_list, rise_at, fall_at}
 use Rattle.transform.specs.InverseLaws.{folds}
 
 from : (N : ℕ) → Length N → Part N

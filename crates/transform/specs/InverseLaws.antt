@@ -15,7 +15,7 @@ use Rattle.transform.specs.Analysis.{window}
 use Rattle.transform.specs.Synthesis.{U, V'}
 use Rattle.transform.specs.FoldLaws.{inverse_first, inverse_middle, inverse_last}
 use Rattle.transform.specs.SizeLaws.{window-left, window-right}
-use Rattle.tables.specs.HalfLaws.{rise_list, fall_list, rise_at, fall_at}
+use Rattle.windows.specs.HalfLaws.{rise_list, fall_list, rise_at, fall_at}
 
 -- the sum over k of X(k) × F(j,k)
 unfoldable pub folds : ℕ → List ℤ → ℕ → ℤ

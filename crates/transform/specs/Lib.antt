@@ -5,6 +5,4 @@ pub mod SizeLaws
 pub mod HopLaws
 pub mod DirectLaws
 pub mod InverseLaws
-pub mod LiftLaws
 pub mod Stages
-pub mod ThirdLaws

@@ -1,17 +1,17 @@
 -- What the leaves of a block hand on to each other: a record for each stage.
-use Rattle.std.specs.Prelude.{◌≡◌, List, ℕ, ◌*◌, ◌/◌, ◌^◌, ◌≤◌, ◌<◌, T, leb, length, ℤ, pos, nat_abs}
-use Rattle.std.proofs.Common.{sym, ap, ◌∙◌, arith, leb→le}
+use Rattle.std.specs.Prelude.{◌≡◌, List, ℕ, ◌*◌, ◌/◌, ◌^◌, ◌≤◌, ◌<◌, length, ℤ, pos, nat_abs, ◌*ℤ◌}
+use Rattle.std.proofs.Common.{ap, ◌∙◌, arith}
 use Rattle.arithmetic.specs.Lists.{at, table, Small}
 use Rattle.arithmetic.specs.ListLaws.{length-table, get_d_table}
 use Rattle.cosine.specs.Kernels.{d, F}
+use Rattle.arithmetic.specs.OrderLaws.{abs_mul_le}
+use Rattle.arithmetic.specs.SumLaws.{sum_abs}
 use Rattle.cosine.specs.KernelLaws.{F-size}
 use Rattle.cosine.specs.LengthLaws.{Length, Part, d-third, third-part}
-use Rattle.tables.specs.HalfLaws.{rise_list, fall_list}
-use Rattle.tables.specs.LiftLists.{Lifted, lift_of, base_of, lift_of_length, lift_of_is, base_of-length, lift_list, base_list}
+use Rattle.windows.specs.HalfLaws.{rise_list, fall_list}
 use Rattle.transform.specs.Analysis.{y}
 use Rattle.transform.specs.FoldLaws.{folded}
 use Rattle.transform.specs.InverseLaws.{folds}
-use Rattle.transform.specs.LiftLaws.{folds_abs}
 
 -- z is the block x, windowed by joints of these shapes, and folded
 pub record Folded (N l r : ℕ) (x z : List ℤ) : Type 0 where
@@ -35,50 +35,15 @@ pub record Sixths (N : ℕ) : Type 0 where
 pub sixths_of : (N : ℕ) → Length N → Sixths N
 sixths_of N l = record { whole = omega (arith, l.twelve); parts = d-third N l; part = third-part N l; few = omega (arith, l.most) }
 
--- x can be summed so in thirds
+-- x can be summed, and so can every third of its numbers
 pub record Ready (N : ℕ) (x : List ℤ) : Type 0 where
   pub six : Sixths N
   pub input : Input N x
 
--- a kernel of m × m, lifted, and the sums of its numbers
-pub record Weights (m : ℕ) (rows base : List ℤ) : Type 0 where
-  pub few : m ≤ 36
-  pub kernel : ℕ → ℕ → ℤ
-  pub small : (k j : ℕ) → nat_abs (kernel k j) ≤ 2 ^ 26
-  pub rows_are : rows ≡ lift_of m kernel
-  pub base_are : base ≡ base_of m kernel
-
-module _ {m : ℕ} {rows base : List ℤ} (w : Weights m rows base) where
-  pub rows_long : length rows ≡ m * m
-  rows_long = ap length w.rows_are ∙ lift_of_length m w.kernel
-
-  pub rows-lifted : Lifted rows (2 ^ 27)
-  rows-lifted = rw w.rows_are (lift_of_is m w.kernel w.small)
-
-  pub base_long : length base ≡ m
-  base_long = ap length w.base_are ∙ base_of-length m w.kernel
-
--- the folded kernel of N, so. The test on N is one that computes: a body's search sees it
-pub record Kernel (N : ℕ) (rows base : List ℤ) : Type 0 where
-  pub few : T (leb (N / 2) 36)
-  pub rows_are : rows ≡ lift_list N
-  pub base_are : base ≡ base_list N
-
-pub kernel_weights : (N m : ℕ) (rows base : List ℤ) → m ≡ N / 2 → Kernel N rows base → Weights m rows base
-unfolding lift_list base_list
-kernel_weights N m rows base e k =
-    record {
-      few = omega (arith, e, leb→le (N / 2) 36 k.few);
-      kernel = F N;
-      small = F-size N;
-      rows_are = k.rows_are ∙ ap (λ (n : ℕ). lift_of n (F N)) (sym e);
-      base_are = k.base_are ∙ ap (λ (n : ℕ). base_of n (F N)) (sym e);
-    }
-
--- room for m numbers, twice
-pub record Room (m : ℕ) (z t : List ℤ) : Type 0 where
-  pub first : length z ≡ m
-  pub second : length t ≡ m
+-- a sum is as small as its inputs let it be
+pub folds_abs : (N : ℕ) (X : List ℤ) (B : ℕ) → length X ≡ N / 2 → Small X B → (k : ℕ) → nat_abs (folds N X k) ≤ N / 2 * (B * 2 ^ 26)
+unfolding folds
+folds_abs N X B l s k = sum_abs (N / 2) (λ j. at X j *ℤ F N k j) (B * 2 ^ 26) (λ j p. abs_mul_le (at X j) (F N k j) (s.small j (rw l p)) (F-size N k j))
 
 -- t has the sums of x
 pub record Sums (N : ℕ) (x t : List ℤ) : Type 0 where

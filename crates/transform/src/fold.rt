@@ -3,7 +3,7 @@ ghost use Rattle.std.specs.Prelude.{◌≡◌, ◌+◌, ◌-◌, ◌*◌, ◌/�
 ghost use Rattle.arithmetic.specs.Rounding.{rnd};
 ghost use Rattle.arithmetic.specs.Lists.{table, Small};
 ghost use Rattle.transform.specs.HopLaws.{windowed, hops};
-ghost use Rattle.tables.specs.HalfLaws.{WindowHalf, Halves};
+ghost use Rattle.windows.specs.HalfLaws.{WindowHalf, Halves};
 
 // rnd(w x / 2^18). To 2^16 times the product x itself is added, which is smaller than 2^16: so it decides at an exact half, and nowhere else.
 fn weighted(w: i32, x: i16) -> i32
@@ -78,7 +78,7 @@ pub fn fold(rise: &[i32], fall: &[i32], x: &[i16], z: &mut [i32])
     ensures small { Small z.new (2 ^ 24) }
 {
     let m = z.len();
-    for j in 0..m {
-        z[j] = folded_at(rise, fall, x, m, j);
+    for (j, place) in z.iter_mut().enumerate() {
+        *place = folded_at(rise, fall, x, m, j);
     }
 }

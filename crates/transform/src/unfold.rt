@@ -1,17 +1,34 @@
 // The inverse: V from the M sums of a block's coefficients. A hop has m samples, an even number, and the block 2 m.
 ghost use Rattle.std.specs.Prelude.{◌≡◌, ◌+◌, ◌*◌, ◌/◌, ◌^◌, ◌≤◌, ◌<◌, length, neg_ℤ, nat_abs, ◌*ℤ◌};
 ghost use Rattle.arithmetic.specs.Rounding.{rnd};
+ghost use Rattle.arithmetic.specs.RoundingLaws.{under};
 ghost use Rattle.arithmetic.specs.Lists.{at, table, Small};
 ghost use Rattle.transform.specs.InverseLaws.{value_at};
-ghost use Rattle.tables.specs.HalfLaws.{Halves};
+ghost use Rattle.windows.specs.HalfLaws.{Halves};
 
-// The sums, rounded in place: U at M places. Each serves two places, since a sum with its sign changed rounds to the same with its sign changed.
-pub fn round(t: &mut [i64])
-    requires { Small t.old (2 ^ 62) }
-    ensures { t.new ≡ table (length t.old) (λ j. rnd (at t.old j) (2 ^ 26)) }
+// What is added to a number before it is rounded, so that an exact half goes away from zero: one shift, as in `arithmetic`, where it is private.
+fn tilt(a: i64) -> i64
+    ensures { result ≡ under a }
 {
-    for j in 0..t.len() {
-        t[j] = arithmetic::rnd_shift(t[j], 26);
+    a >> 63
+}
+
+// A doubled sum, rounded: the half is added, tilted, and the shift takes the floor. `arithmetic::rnd_shift` asks for sums within 2^62, and these reach 108 × 2^56.
+fn rounded(sum: i64) -> i64
+    requires { nat_abs sum ≤ 108 * 2 ^ 56 }
+    ensures { result ≡ rnd sum (2 ^ 27) }
+{
+    (sum + tilt(sum) + 67108864) >> 27
+}
+
+// The doubled sums, rounded in place: U at M places. Each serves two places, since a sum with its sign changed rounds to the same with its sign changed.
+#[inline(always)]
+pub fn round_doubled(t: &mut [i64])
+    requires { Small t.old (108 * 2 ^ 56) }
+    ensures { t.new ≡ table (length t.old) (λ j. rnd (at t.old j) (2 ^ 27)) }
+{
+    for sum in t.iter_mut() {
+        *sum = rounded(*sum);
     }
 }
 
@@ -55,6 +72,7 @@ fn value(rise: &[i32], fall: &[i32], t: &[i64], n: usize) -> i64
     weighted_negated(fall[n - m], t[n - 3 * h])
 }
 
+#[inline(always)]
 pub fn values(rise: &[i32], fall: &[i32], t: &[i64], v: &mut [i64])
     requires halves { Halves (length t.now) rise.now fall.now }
     requires v_len { length v.old ≡ 2 * length t.now }
@@ -62,7 +80,7 @@ pub fn values(rise: &[i32], fall: &[i32], t: &[i64], v: &mut [i64])
     requires small { Small t.now (2 ^ 36) }
     ensures { v.new ≡ table (length v.old) (value_at rise.now fall.now t.now) }
 {
-    for n in 0..v.len() {
-        v[n] = value(rise, fall, t, n);
+    for (n, place) in v.iter_mut().enumerate() {
+        *place = value(rise, fall, t, n);
     }
 }

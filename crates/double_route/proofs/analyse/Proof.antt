@@ -5,6 +5,7 @@ use Prim.Native.Nat.{ℕ, ◌/◌, ◌≤◌}
 use native.Mathlib.Nat.{le_trans}
 use native.Mathlib.Omega.{arith}
 use lib.ListN.{length}
+use lib.Dec.{lit≤}
 use lib.Seq.{length-take-le}
 use lib.IntN.{ℤ}
 use Rattle.arithmetic.specs.Lists.{at, table}
@@ -63,7 +64,7 @@ slice_aggregate_spectrum c = let p = c.before.before in front_long (h (x p)) _ (
 spectrum_requires : tie.Need-spectrum-requires
 spectrum_requires c κs =
     let p = c.before.before.before in
-    rw (front_is (h (x p)) (sums p) _ (long p)) (sym (long p), whole_small (N (x p)) (y (x p)) (given (x p)) (sums p) (is p))
+    rw (front_is (h (x p)) (sums p) _ (long p)) (sym (long p), (lit≤ tt, (lit≤ tt, whole_small (N (x p)) (y (x p)) (given (x p)) (sums p) (is p))))
 
 same_length : tie.Need-shape_of-out
 same_length c = search rules

@@ -20,7 +20,7 @@ returns : tie.Need-returns
 returns c =
     let s = c.before.before.before in
     let w = s.requires.1.0 in
-    block_is s.args.n s.args.left s.args.right w.given.whole s.args.x.now s.args.block.now w.given.all w.is _ c.before.analyse.ensures
+    block_is s.args.n s.args.joints.left s.args.joints.right w.given.whole s.args.x.now s.args.block.now w.given.all w.is _ c.before.analyse.ensures
 
 pub double_block_spec : {M : Type 1} → statement M
 double_block_spec = tie.close (tie.spec analyse_requires same_length returns)

@@ -50,7 +50,7 @@ returns c =
     let f = c.before in
     let s = f.before.before in
     let q = s.requires in
-    short-step (n s) s.args.left s.args.right q.0.given.whole s.args.x.now (length (a s)) (block s) (a s) (plus s) (minus s) _ (a_long s) q.0.is q.1.0 f.coefficients.ensures
+    short-step (n s) s.args.joints.left s.args.joints.right q.0.given.whole s.args.x.now (length (a s)) (block s) (a s) (plus s) (minus s) _ (a_long s) q.0.is q.1.0 f.coefficients.ensures
 
 pub short_block_spec : {M : Type 1} → statement M
 short_block_spec = tie.close (tie.spec coefficients_requires same_length returns)

@@ -2,7 +2,7 @@
 use mathlib.Core.Path.{sym, ap, ◌∙◌}
 use native.Mathlib.Omega.{arith}
 use lib.ListN.{length}
-use Rattle.tables.specs.HalfLaws.{rise_length, fall_length, lent-window}
+use Rattle.windows.specs.HalfLaws.{rise_length, fall_length, lent-window}
 use Rattle.cosine.specs.LengthLaws.{third-part}
 use Rattle.split.specs.ShortStepLaws.{windowed-step}
 use Rattle.split.specs.PartLaws.{windowed-length}
@@ -15,9 +15,9 @@ windowed_block_requires c κs =
     let s = c.before in
     let n = s.args.n in
     let q = s.requires in
-    let l = rise_length s.args.left n in
-    let w = lent-window n s.args.left s.args.right s.args.rise.now s.args.fall.now q.0 in (
-      ap length q.0.rise ∙ l ∙ sym (fall_length s.args.right n) ∙ sym (ap length q.0.fall),
+    let l = rise_length s.args.joints.left n in
+    let w = lent-window n s.args.joints.left s.args.joints.right s.args.rise.now s.args.fall.now q.0 in (
+      ap length q.0.rise ∙ l ∙ sym (fall_length s.args.joints.right n) ∙ sym (ap length q.0.fall),
       (q.1.1.0 ∙ omega (arith, q.0.whole.twelve, ap length q.0.rise, l), (q.1.1.1 ∙ sym q.1.1.0, w)),
     )
 
@@ -30,9 +30,9 @@ returns c =
     let s = f.before.before in
     let q = s.requires in
     let n = s.args.n in
-    let is = windowed-step n s.args.left s.args.right s.args.x.now (length s.args.x.now) s.args.rise.now s.args.fall.now _ q.1.1.0 q.0.rise q.0.fall f.windowed_block.ensures.0 in
+    let is = windowed-step n s.args.joints.left s.args.joints.right s.args.x.now (length s.args.x.now) s.args.rise.now s.args.fall.now _ q.1.1.0 q.0.rise q.0.fall f.windowed_block.ensures.0 in
     record {
-      given = record { whole = q.0.whole; few = q.1.0; part = third-part n q.0.whole; all = windowed-length n s.args.left s.args.right s.args.x.now _ is; small = f.windowed_block.ensures.1 };
+      given = record { whole = q.0.whole; few = q.1.0; part = third-part n q.0.whole; all = windowed-length n s.args.joints.left s.args.joints.right s.args.x.now _ is; small = f.windowed_block.ensures.1 };
       is = is;
     }
 

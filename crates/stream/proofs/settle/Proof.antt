@@ -15,13 +15,13 @@ module _ (s : tie.Start) where
   n = s.args.n
 
   small : (k : ℕ) → k < n / 2 → nat_abs (at s.args.x.now k) ≤ 2 ^ 29
-  small k p = s.requires.0.ready.input.small.small k (omega (arith, s.requires.0.ready.input.long))
+  small k p = s.requires.0.input.small.small k (omega (arith, s.requires.0.input.long))
 
   long : length s.args.v.now ≡ n
-  long = values_long n s.args.left s.args.right s.requires.0.part s.args.x.now s.args.v.now small s.requires.1
+  long = values_long n s.args.joints.left s.args.joints.right s.requires.0.part s.args.x.now s.args.v.now small s.requires.1
 
   bounded : Bounded (n / 2) s.args.v.now
-  bounded = values-bounded n s.args.left s.args.right s.requires.0.part s.args.x.now s.args.v.now small s.requires.1
+  bounded = values-bounded n s.args.joints.left s.args.joints.right s.requires.0.part s.args.x.now s.args.v.now small s.requires.1
 
 fill_hop_requires : tie.Need-fill_hop-requires
 fill_hop_requires c κs =
@@ -43,8 +43,8 @@ returns : tie.Need-returns
 returns c =
     let s = c.before.before.before.before.before.before in
     let f = c.before.before.before.before in (
-      tail_step (n s) s.args.left s.args.right s.requires.0.part s.args.x.now s.args.v.now (small s) s.requires.1 s.args.tail.now _ c.before.shift.ensures,
-      hop-step (n s) s.args.left s.args.right s.requires.0.part s.args.x.now s.args.v.now (small s) s.requires.1 s.args.tail.now _ f.fill_hop.ensures,
+      tail_step (n s) s.args.joints.left s.args.joints.right s.requires.0.part s.args.x.now s.args.v.now (small s) s.requires.1 s.args.tail.now _ c.before.shift.ensures,
+      hop-step (n s) s.args.joints.left s.args.joints.right s.requires.0.part s.args.x.now s.args.v.now (small s) s.requires.1 s.args.tail.now _ f.fill_hop.ensures,
     )
 
 pub settle_spec : {M : Type 1} → statement M

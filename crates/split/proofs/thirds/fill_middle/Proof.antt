@@ -1,7 +1,7 @@
 -- `fill_middle` meets its contract: a windowed block is within the limit.
 use native.Mathlib.Nat.{le_trans}
 use borrow.Author.Rules.{rules}
-use Rattle.split.specs.RotationLaws.{limit-least}
+use Rattle.split.specs.TurnLaws.{limit-least}
 use Rattle.split.specs.PartLaws.{third-made}
 use Rattle.split.proofs.thirds.fill_middle.Statement.{statement}
 use Rattle.split.proofs.thirds.fill_middle.Tie as tie

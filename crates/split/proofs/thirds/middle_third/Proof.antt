@@ -9,7 +9,7 @@ use mir.Facts.{to_z-of_z}
 use Rattle.arithmetic.specs.Lists.{at}
 use Rattle.arithmetic.specs.ListLaws.{Filled, filled_none, filled_more, filled-all}
 use Rattle.split.specs.Parts.{middle}
-use Rattle.split.specs.RotationLaws.{limit-most}
+use Rattle.split.specs.TurnLaws.{limit-most}
 use Rattle.split.specs.PartLaws.{third-middle}
 use Rattle.split.proofs.thirds.middle_third.Statement.{statement}
 use Rattle.split.proofs.thirds.middle_third.Tie as tie

@@ -8,7 +8,7 @@ use mir.Val.{SFits, to_z, of_z}
 use mir.Facts.{to_z-of_z}
 use Rattle.arithmetic.specs.OrderLaws.{sfits_abs, abs_neg}
 use Rattle.split.specs.ShortStepLaws.{turned-even, turned-odd}
-use Rattle.split.specs.RotationLaws.{signed-first, signed-second}
+use Rattle.split.specs.TurnLaws.{signed-first, signed-second}
 use borrow.Author.Rules.{rules}
 use Rattle.split.proofs.thirds.outer_at.Statement.{statement}
 use Rattle.split.proofs.thirds.outer_at.Tie as tie

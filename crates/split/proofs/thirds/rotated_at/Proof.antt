@@ -4,7 +4,7 @@ use Prim.Native.Nat.{ℕ, ◌*◌, ◌<◌, ◌^◌, ◌≤◌}
 use native.Mathlib.Nat.{le_trans}
 use native.Mathlib.Omega.{arith}
 use lib.ListN.{length}
-use lib.IntN.{ℤ, pos, nat_abs, ◌+ℤ◌, ◌-ℤ◌, ◌*ℤ◌}
+use lib.IntN.{ℤ, nat_abs, ◌+ℤ◌, ◌*ℤ◌}
 use mir.Syntax.{w32, w64}
 use mir.Val.{SFits, to_z, of_z}
 use mir.Facts.{to_z-of_z}
@@ -12,7 +12,7 @@ use Rattle.arithmetic.specs.Lists.{at, Small}
 use Rattle.arithmetic.specs.OrderLaws.{sfits_abs}
 use Rattle.split.specs.ShortRoute.{e, f}
 use Rattle.split.specs.ShortSizeLaws.{e-size, f-size}
-use Rattle.split.specs.RotationLaws.{rotated, limit, limit-most, turn-size, rotated-size}
+use Rattle.split.specs.TurnLaws.{rotated, limit, limit-most, turn-size, rotated-size}
 use borrow.Author.Rules.{rules}
 use Rattle.split.proofs.thirds.rotated_at.Statement.{statement}
 use Rattle.split.proofs.thirds.rotated_at.Tie as tie
@@ -81,8 +81,8 @@ turn_requires : tie.Need-turn-requires
 turn_requires c κs =
     let x = s c in
     rw (e-is c, f-is c, p_is c, q_is c) (
-      omega (arith, e-size (N x) (u x) (Q x) (small x) (n x) x.requires.0),
-      (omega (arith, f-size (N x) (u x) (Q x) (small x) (n x) x.requires.0), (omega (arith, x.requires.1.1.p_small (n x) x.requires.0), x.requires.1.1.q_small (n x) x.requires.0)),
+      omega (arith, e-size (N x) (u x) (Q x) (small x) (n x) x.requires.0, limit-most x.args.size),
+      (omega (arith, f-size (N x) (u x) (Q x) (small x) (n x) x.requires.0, limit-most x.args.size), (omega (arith, x.requires.1.1.p_small (n x) x.requires.0), x.requires.1.1.q_small (n x) x.requires.0)),
     )
 
 module _ (c : tie.After-turn) where
@@ -90,7 +90,7 @@ module _ (c : tie.After-turn) where
   x = s c.before
 
   abbrev total : ℤ
-  total = e (N x) (u x) (n x) *ℤ (p x -ℤ pos (2 ^ 27)) +ℤ f (N x) (u x) (n x) *ℤ (q x -ℤ pos (2 ^ 27))
+  total = e (N x) (u x) (n x) *ℤ p x +ℤ f (N x) (u x) (n x) *ℤ q x
 
   total_abs : nat_abs total ≤ 2 ^ 26 * (8 * Q x)
   total_abs = turn-size (N x) (u x) (Q x) (small x) x.args.p.now x.args.q.now x.requires.1.1 (n x) x.requires.0

@@ -1,0 +1,8 @@
+use Rattle.std.proofs.Common.{arith, refl, lit<}
+use Rattle.level.specs.Spots.{near_54, far_54}
+use Rattle.blocks.proofs.Joins.{join_54}
+use Rattle.blocks.proofs.Block54Summing54.block_sums.Goals as goal
+
+pub all_by_third-requires : goal.all_by_third-requires
+unfolding near_54 far_54
+all_by_third-requires c = (lit< tt, (lit< tt, (lit< tt, (refl, ((omega arith, omega arith), (c.requires.small, join_54))))))

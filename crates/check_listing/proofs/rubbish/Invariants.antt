@@ -1,5 +1,0 @@
-use Rattle.std.proofs.Common.{length, ◌≤◌}
-use Rattle.check_listing.proofs.rubbish.Given as goal
-
-abbrev pub invariant-loop-k : goal.invariant-loop-k
-invariant-loop-k g l = l.at ≤ length l.buf

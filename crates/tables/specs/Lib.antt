@@ -1,3 +1,0 @@
-pub mod HalfLaws
-pub mod LiftLists
-pub mod CosineLists

@@ -1,0 +1,6 @@
+use Rattle.text.specs.Number.{is_digit}
+use Rattle.text.proofs.number.is_digit.Goals as goal
+
+pub returns : goal.returns
+unfolding is_digit
+returns c = c.is_ascii_digit.ensures.value
