@@ -1,6 +1,6 @@
 -- Laws of floor, rnd and clamp. Nothing above this crate opens their text.
-use Rattle.std.specs.Prelude.{◌≡◌, refl, Bool, true, false, ◌⊎◌, ℕ, zero, suc, ◌+◌, ◌*◌, ◌/◌, ◌^◌, ◌≤◌, ◌<◌, ℤ, neg_ℤ, nat_abs, ◌+ℤ◌, ◌-ℤ◌, ◌*ℤ◌, ◌≤ℤ◌, ◌<ℤ◌}
-use Rattle.std.proofs.Common.{sym, ap, ◌∙◌, inl, inr, ⊎_elim, div-le_self, mul-le-mul_left, mul-pos, SFits}
+use Rattle.std.specs.Prelude.{◌≡◌, refl, Bool, true, false, ◌⊎◌, ℕ, zero, suc, ◌+◌, ◌-◌, ◌*◌, ◌/◌, ◌^◌, ◌≤◌, ◌<◌, ℤ, neg_ℤ, nat_abs, ◌+ℤ◌, ◌-ℤ◌, ◌*ℤ◌, ◌≤ℤ◌, ◌<ℤ◌}
+use Rattle.std.proofs.Common.{sym, ap, ◌∙◌, inl, inr, ⊎_elim, div-le_self, mul-le-mul_left, mul-pos, pow_mono, SFits}
 use Rattle.std.proofs.Math.Nat.{div-eq_of_lt, div-add-mod, mod-lt}
 use native.Mathlib.Omega.{arith, by_contra}
 use Rattle.std.proofs.Math.IntN.{pos, negsuc, neg_ℤ-neg_ℤ}
@@ -101,6 +101,16 @@ pub under_abs : (a : ℤ) → nat_abs (under a) ≤ 1
 unfolding under
 under_abs (pos a) = omega arith
 under_abs (negsuc a) = omega arith
+
+-- a number tilted, and a half added: no larger than the two, since below zero they pull apart
+pub tilted_abs : (a : ℤ) {h : ℕ} → 0 < h → nat_abs (a +ℤ under a +ℤ pos h) ≤ nat_abs a + h
+unfolding under
+tilted_abs (pos a) p = simp posbounds (omega arith)
+tilted_abs (negsuc a) p = simp posbounds (omega arith)
+
+-- a number within 2^62 leaves 64 bits room for the half of 2^k, whatever k is
+pub room_for_half : (a : ℤ) (k : ℕ) → k < 63 → nat_abs a ≤ 2 ^ 62 → nat_abs a + 2 ^ (k - 1) < 2 ^ 63
+room_for_half a k l h = omega (arith, pow_mono {i = k - 1} {j = 61} (omega arith))
 
 -- s is what is added to a: at zero, either
 pub Under : ℤ → ℤ → Type 0

@@ -1,8 +1,8 @@
 // Rounding and clamping of signed sums. The laws of whole numbers that every other crate cites are in specs/.
-// No function here is a public call: `transform`, `split`, `stream` and `steps` call them, each under its requires.
+// No function here is a public call: `transform`, `split`, `stream`, `text` and `steps` call them, each under its requires.
 #![tactic(auto)]
 
-ghost use Rattle.std.specs.Prelude.{◌≡◌, ◌+◌, ◌≤◌, ◌<◌, ◌*◌, ◌/◌, ◌^◌, T, pos, neg_ℤ, nat_abs, ◌≤ℤ◌, ◌<ℤ◌};
+ghost use Rattle.std.specs.Prelude.{◌≡◌, ◌+◌, ◌-◌, ◌≤◌, ◌<◌, ◌*◌, ◌/◌, ◌^◌, T, pos, neg_ℤ, nat_abs, ◌≤ℤ◌, ◌<ℤ◌};
 ghost use Rattle.std.specs.Int.Signed.{shr_z};
 ghost use Rattle.std.specs.Int.{w64};
 ghost use Rattle.std.proofs.Common.{SFits};
@@ -26,9 +26,9 @@ fn tilt(a: i64) -> i64
     a >> 63
 }
 
-// rnd(a / 2^k): the half is added to a, tilted, and the shift takes the floor.
+// rnd(a / 2^k): the half is added to a, tilted, and the shift takes the floor. The requires leaves room for the half, which a of at most 2^62 has for every k (`room_for_half`).
 pub fn rnd_shift(a: i64, k: u32) -> i64
-    requires { (2 ≤ k) × (k < 63) × (nat_abs a ≤ 2 ^ 62) }
+    requires { (2 ≤ k) × (k < 63) × (nat_abs a + 2 ^ (k - 1) < 2 ^ 63) }
     ensures { result ≡ rnd a (2 ^ k) }
 {
     shifted(a + tilt(a) + (1i64 << (k - 1)), k)

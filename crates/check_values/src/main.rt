@@ -100,7 +100,8 @@ const SUMS: [i64; 89] = [
     -7782220156096217088,
 ];
 
-// A sum that rnd_shift takes: one of at most 2^62.
+// A sum of at most 2^62, which rnd_shift takes for every k.
+#[tactic(auto, using(arithmetic::specs::RoundingLaws::room_for_half))]
 fn shift(rt: &impl Print, k: u32, a: i64) -> io::Result<()>
     requires { (2 ≤ k) × (k < 63) }
 {

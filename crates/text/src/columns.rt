@@ -26,7 +26,7 @@ fn digits(n: u64) -> usize
 fn width(v: i64) -> usize
     ensures { result ≡ length (printed v) }
 {
-    let count = digits(v.unsigned_abs());
+    let count = digits(arithmetic::size(v));
     if v < 0 { count + 1 } else { count }
 }
 

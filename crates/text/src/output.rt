@@ -56,7 +56,7 @@ impl<'a> Output<'a> {
         if v < 0 {
             self.byte(MINUS);
         }
-        self.digits(v.unsigned_abs());
+        self.digits(arithmetic::size(v));
     }
 
     // A further field: a comma and a number, of 20 digits at most.

@@ -1,25 +1,9 @@
 // The inverse: V from the M sums of a block's coefficients. A hop has m samples, an even number, and the block 2 m.
 ghost use Rattle.std.specs.Prelude.{◌≡◌, ◌+◌, ◌*◌, ◌/◌, ◌^◌, ◌≤◌, ◌<◌, length, neg_ℤ, nat_abs, ◌*ℤ◌};
 ghost use Rattle.arithmetic.specs.Rounding.{rnd};
-ghost use Rattle.arithmetic.specs.RoundingLaws.{under};
 ghost use Rattle.arithmetic.specs.Lists.{at, table, Small};
 ghost use Rattle.transform.specs.InverseLaws.{value_at};
 ghost use Rattle.windows.specs.HalfLaws.{Halves};
-
-// What is added to a number before it is rounded, so that an exact half goes away from zero: one shift, as in `arithmetic`, where it is private.
-fn tilt(a: i64) -> i64
-    ensures { result ≡ under a }
-{
-    a >> 63
-}
-
-// A doubled sum, rounded: the half is added, tilted, and the shift takes the floor. `arithmetic::rnd_shift` asks for sums within 2^62, and these reach 108 × 2^56.
-fn rounded(sum: i64) -> i64
-    requires { nat_abs sum ≤ 108 * 2 ^ 56 }
-    ensures { result ≡ rnd sum (2 ^ 27) }
-{
-    (sum + tilt(sum) + 67108864) >> 27
-}
 
 // The doubled sums, rounded in place: U at M places. Each serves two places, since a sum with its sign changed rounds to the same with its sign changed.
 #[inline(always)]
@@ -28,7 +12,7 @@ pub fn round_doubled(t: &mut [i64])
     ensures { t.new ≡ table (length t.old) (λ j. rnd (at t.old j) (2 ^ 27)) }
 {
     for sum in t.iter_mut() {
-        *sum = rounded(*sum);
+        *sum = arithmetic::rnd_shift(*sum, 27);
     }
 }
 

@@ -1,4 +1,4 @@
--- `rnd_shift` meets its contract: the half is 2^(k - 1), which is at most 2^61, and the shift is the floor.
+-- `rnd_shift` meets its contract: the half is 2^(k - 1), for which the sum leaves room, and the shift is the floor.
 use mathlib.Core.Path.{◌≡◌, sym, ◌∙◌, ap}
 use Prim.Native.Nat.{ℕ, suc, ◌-◌, ◌*◌, ◌%◌, ◌^◌, ◌≤◌}
 use native.Mathlib.Nat.{pow-succ'}
@@ -11,7 +11,7 @@ use mir.Syntax.{w64}
 use mir.Val.{SFits, to_z, of_z}
 use mir.Facts.{to_z-of_z, to_z_pos}
 use Rattle.arithmetic.specs.OrderLaws.{sfits_abs, sfits_shr, abs_add}
-use Rattle.arithmetic.specs.RoundingLaws.{floor_shr, under, under_abs, under_self, rnd-half}
+use Rattle.arithmetic.specs.RoundingLaws.{floor_shr, under, under_abs, tilted_abs, under_self, rnd-half}
 use Rattle.arithmetic.proofs.rnd_shift.Statement.{statement}
 use Rattle.arithmetic.proofs.rnd_shift.Tie as tie
 
@@ -44,13 +44,13 @@ module _ (c : tie.Start) where
   tilted = a +ℤ under a
 
   tilted-fits : SFits w64 tilted
-  tilted-fits = sfits_abs tilted (omega (arith, abs_add a (under a), under_abs a, c.requires.2))
+  tilted-fits = sfits_abs tilted (omega (arith, abs_add a (under a), under_abs a, pow_pos (k - 1), c.requires.2))
 
   abbrev z : ℤ
   z = tilted +ℤ pos half
 
   sum_fits : SFits w64 z
-  sum_fits = sfits_abs z (omega (arith, abs_add tilted (pos half), abs_add a (under a), under_abs a, half_le, c.requires.2))
+  sum_fits = sfits_abs z (omega (arith, tilted_abs a {h = half} (pow_pos (k - 1)), c.requires.2))
 
 tilt_requires : tie.Need-tilt-requires
 tilt_requires c κs = search rules

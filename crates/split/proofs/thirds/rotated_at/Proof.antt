@@ -1,6 +1,6 @@
 -- `rotated_at` meets its contract: e and f are turned by their cosines, which keeps them below 2^55, and 2^29 once divided.
 use mathlib.Core.Path.{◌≡◌, ◌∙◌}
-use Prim.Native.Nat.{ℕ, ◌*◌, ◌<◌, ◌^◌, ◌≤◌}
+use Prim.Native.Nat.{ℕ, ◌+◌, ◌-◌, ◌*◌, ◌<◌, ◌^◌, ◌≤◌}
 use native.Mathlib.Nat.{le_trans}
 use native.Mathlib.Omega.{arith}
 use lib.ListN.{length}
@@ -100,7 +100,7 @@ module _ (c : tie.After-turn) where
 
 rnd_shift_requires : tie.Need-rnd_shift-requires
 rnd_shift_requires c κs =
-    let h : nat_abs (to_z w64 (of_z w64 c.turn.result)) ≤ 2 ^ 62 = rw (total-is c) (omega (arith, total_abs c, limit-most (x c).args.size)) in
+    let room : nat_abs (to_z w64 (of_z w64 c.turn.result)) + 2 ^ (26 - 1) < 2 ^ 63 = rw (total-is c) (omega (arith, total_abs c, limit-most (x c).args.size)) in
     search rules
 
 module _ (c : tie.After-rnd_shift) where

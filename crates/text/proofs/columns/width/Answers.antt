@@ -9,14 +9,14 @@ use Rattle.text.proofs.columns.width.Goals as goal
 
 -- what `digits` counts
 pub overflow_add-result : goal.overflow_add-result
-overflow_add-result c = omega (arith, c.digits-count.ensures, decimal_machine c.unsigned_abs.result (omega arith))
+overflow_add-result c = omega (arith, c.digits-count.ensures, decimal_machine c.size.result (omega arith))
 
 pub returns-then-v-lt0 : goal.returns-then-v-lt0
 returns-then-v-lt0 c =
-    let counted : c.digits-count.result ≡ length (decimal (nat_abs c.args.v)) = c.digits-count.ensures ∙ ap (λ n. length (decimal n)) (c.unsigned_abs.ensures.value ∙ ap nat_abs (to_z-of_z c.ranges.v)) in
+    let counted : c.digits-count.result ≡ length (decimal (nat_abs c.args.v)) = c.digits-count.ensures ∙ ap (λ n. length (decimal n)) (c.size.ensures ∙ ap nat_abs (to_z-of_z c.ranges.v)) in
     omega (arith, counted, ap length (printed-negative c.args.v (rw (to_z-of_z c.ranges.v) at c.if-v-lt0.true)))
 
 pub returns-else-v-lt0 : goal.returns-else-v-lt0
 returns-else-v-lt0 c =
-    let counted : c.digits-count.result ≡ length (decimal (nat_abs c.args.v)) = c.digits-count.ensures ∙ ap (λ n. length (decimal n)) (c.unsigned_abs.ensures.value ∙ ap nat_abs (to_z-of_z c.ranges.v)) in
+    let counted : c.digits-count.result ≡ length (decimal (nat_abs c.args.v)) = c.digits-count.ensures ∙ ap (λ n. length (decimal n)) (c.size.ensures ∙ ap nat_abs (to_z-of_z c.ranges.v)) in
     omega (arith, counted, ap length (printed-other c.args.v (rw (to_z-of_z c.ranges.v) at c.if-v-lt0.false)))

@@ -1,14 +1,16 @@
-use Rattle.std.proofs.Common.{arith, ap, ◌∙◌, ◌≡◌, ◌^◌, ℤ, FitsSigned, w32, w64}
+use Rattle.std.proofs.Common.{arith, ap, ◌∙◌, ◌≡◌, ◌^◌, ◌<◌, ℤ, FitsSigned, w32, w64}
 use Rattle.std.proofs.Math.Facts.{to_z-of_z}
 use Rattle.arithmetic.specs.Rounding.{rnd}
 use Rattle.arithmetic.specs.OrderLaws.{sfits_abs}
+use Rattle.arithmetic.specs.RoundingLaws.{room_for_half}
 use Rattle.transform.proofs.Shifts.{bounds}
 use Rattle.transform.proofs.rounding.coefficient.Goals as goal
 
 pub rnd_shift-requires : goal.rnd_shift-requires
 rnd_shift-requires c =
     let q = c.requires in
-    (omega (arith, q.least), omega (arith, q.most), rw (to_z-of_z c.ranges.sum) (bounds c.args.sum c.args.k q.least q.most q.small).0)
+    let less : c.args.k < 63 = omega (arith, q.most) in
+    (omega (arith, q.least), less, rw (to_z-of_z c.ranges.sum) (room_for_half c.args.sum c.args.k less (bounds c.args.sum c.args.k q.least q.most q.small).0))
 
 module _ (c : goal.After-rnd_shift) where
   value : c.rnd_shift.result ≡ rnd c.args.sum (2 ^ c.args.k)

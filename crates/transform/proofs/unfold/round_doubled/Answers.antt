@@ -1,5 +1,5 @@
 use Rattle.std.specs.Prelude.{◌≡◌, List, ℕ, ◌*◌, ◌^◌, ◌<◌, length, pos}
-use Rattle.std.proofs.Common.{arith, ap, ◌∙◌, ℤ, w64, to_z, of_z}
+use Rattle.std.proofs.Common.{arith, ap, ◌∙◌, ℤ, w64, to_z, of_z, lit≤, lit<}
 use Rattle.std.proofs.Math.Facts.{to_z-of_z}
 use Rattle.arithmetic.specs.Rounding.{rnd}
 use Rattle.arithmetic.specs.Lists.{at, Small}
@@ -15,14 +15,14 @@ read t t' j s so less =
 pub loop-sum-init : goal.loop-sum-init
 loop-sum-init c = filled_none (λ j. rnd (at c.args.t.now j) (2 ^ 27)) c.args.t.now
 
-pub rounded-requires : goal.rounded-requires
-rounded-requires c =
+pub rnd_shift-requires : goal.rnd_shift-requires
+rnd_shift-requires c =
     let less : c.loop-sum.sum-index < length c.args.t.now = omega arith in
-    rw (read c.args.t.now c.loop-sum.t c.loop-sum.sum-index c.requires c.loop-sum.invariant less) (c.requires.small c.loop-sum.sum-index less)
+    (lit≤ tt, lit< tt, rw (read c.args.t.now c.loop-sum.t c.loop-sum.sum-index c.requires c.loop-sum.invariant less) (omega (arith, c.requires.small c.loop-sum.sum-index less)))
 
 pub loop-sum-preserved : goal.loop-sum-preserved
 loop-sum-preserved c =
     let less : c.loop-sum.sum-index < length c.args.t.now = omega arith in
     filled_more (λ j. rnd (at c.args.t.now j) (2 ^ 27)) c.loop-sum.sum-index c.loop-sum.t c.args.t.now _ c.loop-sum.invariant (omega (arith, c.loop-sum.invariant.room))
-    (to_z-of_z {w = w64} {z = c.rounded.result} (record { sfits = c.rounded.type_inv }) ∙ c.rounded.ensures
+    (to_z-of_z {w = w64} {z = c.rnd_shift.result} (record { sfits = c.rnd_shift.type_inv }) ∙ c.rnd_shift.ensures
     ∙ ap (λ (z : ℤ). rnd z (2 ^ 27)) (read c.args.t.now c.loop-sum.t c.loop-sum.sum-index c.requires c.loop-sum.invariant less))

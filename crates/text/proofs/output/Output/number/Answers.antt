@@ -12,7 +12,7 @@ byte-requires c = omega (arith, ap length (printed-negative c.args.v (rw (to_z-o
 
 pub digits-requires : goal.digits-requires
 digits-requires c =
-    let size : c.unsigned_abs.result ≡ nat_abs c.args.v = c.unsigned_abs.ensures.value ∙ ap nat_abs (to_z-of_z c.ranges.v) in
+    let size : c.size.result ≡ nat_abs c.args.v = c.size.ensures ∙ ap nat_abs (to_z-of_z c.ranges.v) in
     elim c.if-v-lt0.branch [
       | then-v-lt0 w ↦ rw (w.self-is, size) (omega (arith, ap length (printed-negative c.args.v (rw (to_z-of_z c.ranges.v) at w.if-v-lt0.true)), w.byte.ensures.put.behind, w.byte.ensures.long))
       | else-v-lt0 w ↦ rw (w.self-is, size) (omega (arith, ap length (printed-other c.args.v (rw (to_z-of_z c.ranges.v) at w.if-v-lt0.false))))
@@ -20,7 +20,7 @@ digits-requires c =
 
 pub returns : goal.returns
 returns c =
-    let size : c.unsigned_abs.result ≡ nat_abs c.args.v = c.unsigned_abs.ensures.value ∙ ap nat_abs (to_z-of_z c.ranges.v) in
+    let size : c.size.result ≡ nat_abs c.args.v = c.size.ensures ∙ ap nat_abs (to_z-of_z c.ranges.v) in
     elim c.if-v-lt0.branch [
       | then-v-lt0 w ↦ rw (printed-negative c.args.v (rw (to_z-of_z c.ranges.v) at w.if-v-lt0.true)) (puts_then w.byte.ensures (rw (size, w.self-is) at c.digits.ensures))
       | else-v-lt0 w ↦ rw (printed-other c.args.v (rw (to_z-of_z c.ranges.v) at w.if-v-lt0.false)) (rw (size, w.self-is) at c.digits.ensures)
