@@ -1,4 +1,6 @@
 // Whole blocks of each length: all their floats in one sum, and the highest and the lowest.
+ghost use Rattle.std.specs.Prelude.{◌<◌};
+
 use crate::{ROOM, pattern, show_ends};
 use bank_report::{ABOVE, BELOW, LEAST, LENGTHS, MOST, code};
 use report::buffers::{first, first_of, with};
@@ -38,7 +40,9 @@ fn made(m: usize) -> [[i32; ROOM]; 8] {
 }
 
 // The sum with the float at place k.
-fn summed(sum: u64, k: usize, x: f64) -> u64 {
+fn summed(sum: u64, k: usize, x: f64) -> u64
+    ensures { result < 1000003 }
+{
     (sum % PRIME + (k as u64 % PRIME + 1) * (pattern(x) % PRIME)) % PRIME
 }
 

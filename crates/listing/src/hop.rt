@@ -29,12 +29,12 @@ fn all_samples(line: &[u8]) -> bool
     line.split(|b| *b == COMMA).all(|field| is_sample(field))
 }
 
-// M samples parted by commas.
+// M samples parted by commas. The samples first: a line is left at a field that is none, and not counted to its end.
 #[tactic(auto, unfolding(crate::specs::Hops::is_hop))]
 pub fn is_hop(line: &[u8], m: usize) -> bool
     ensures { result ≡ is_hop m line.now }
 {
-    count_fields(line) == m && all_samples(line)
+    all_samples(line) && count_fields(line) == m
 }
 
 // The samples of a line that is a hop.
