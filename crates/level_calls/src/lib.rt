@@ -34,16 +34,17 @@ fn step_room() -> [u32; LONGEST]
     [0; LONGEST]
 }
 
-// The step of each coefficient by a table, in front of room for those of the longest block. Line (9), Gap (10), Overlap (11): the table is turned away.
+// The step of each coefficient by a table, at the front of room for those of the longest block, which is lent, so that no array is copied. Line (9), Gap (10), Overlap (11): the table is turned
+// away, and nothing is said of the room but its length.
 #[tactic(auto, using(crate::specs::LevelCallLaws::hop_some, crate::specs::LevelCallLaws::hop_most, crate::specs::LevelCallLaws::each_of))]
-fn read_steps(n: usize, table: &[u8]) -> Result<[u32; LONGEST], Refusal>
-    requires { T (tabled n) }
+fn read_steps(n: usize, table: &[u8], each: &mut [u32]) -> Result<(), Refusal>
+    requires tabled { T (tabled n) }
+    requires room { length each.old ≡ 108 }
     ensures code { code_of result ≡ table_code (n / 2) table.now }
-    ensures ok { IfOk result (λ each. Each n table.now each) }
+    ensures ok { OnOk result (Each n table.now each.new) }
 {
-    let mut each = step_room();
     steps::read_into(table, n / 2, &mut each[..n / 2])?;
-    Ok(each)
+    Ok(())
 }
 
 /// The level of each of M = n / 2 coefficients by its step: rnd(X / step) (document 02, P8). Length (1): n is not tabled. Line (9), Gap (10), Overlap (11): the
@@ -55,7 +56,8 @@ pub fn quantise(n: usize, table: &[u8], x: &[i32], levels: &mut [i32]) -> Result
 {
     check_length(n)?;
     let m = n / 2;
-    let each = read_steps(n, table)?;
+    let mut each = step_room();
+    read_steps(n, table, &mut each)?;
     check_size(x.len(), m)?;
     check_size(levels.len(), m)?;
     check_coefficients(x, m)?;
@@ -72,7 +74,8 @@ pub fn dequantise(n: usize, table: &[u8], levels: &[i32], out: &mut [i32]) -> Re
 {
     check_length(n)?;
     let m = n / 2;
-    let each = read_steps(n, table)?;
+    let mut each = step_room();
+    read_steps(n, table, &mut each)?;
     check_size(levels.len(), m)?;
     check_size(out.len(), m)?;
     levels::fill_restored(levels, &each[..m], out);
@@ -104,13 +107,13 @@ fn distance(route: Route, n: usize, table: &[u8]) -> u32
 
 /// How far a returned sample may lie from its own where the coefficients were stored by this table (document 02, P8). Length (1): the
 /// route is not offered at n. Line (9), Gap (10), Overlap (11): the table is turned away.
-#[tactic(auto, using(refusals::specs::AnswerLaws::number_some, crate::specs::LevelCallLaws::offered_tabled), unfolding(crate::specs::LevelCalls::told, crate::specs::LevelCalls::told_code, crate::specs::LevelCalls::told_causes, checks::specs::Causes::first_cause))]
+#[tactic(auto, using(crate::specs::LevelCallLaws::hop_some, crate::specs::LevelCallLaws::hop_most, refusals::specs::AnswerLaws::number_some, crate::specs::LevelCallLaws::offered_tabled), unfolding(crate::specs::LevelCalls::told, crate::specs::LevelCalls::told_code, crate::specs::LevelCalls::told_causes, checks::specs::Causes::first_cause))]
 pub fn told_distance(route: Route, n: usize, table: &[u8]) -> Result<u32, Refusal>
     ensures answer { told_of result ≡ told route n table.now }
     ensures taken { IfOk result (λ d. d ≡ distance route n table.now) }
 {
     check_route(route, n)?;
-    read_steps(n, table)?;
+    steps::read(table, n / 2)?;
     Ok(distance(route, n, table))
 }
 
@@ -149,7 +152,8 @@ fn bring(n: usize, table: &[u8], levels: &[i32]) -> Result<[i32; LONGEST], Refus
     ensures long { IfOk result (λ x. n / 2 ≡ length (take (n / 2) x)) }
 {
     let m = n / 2;
-    let each = read_steps(n, table)?;
+    let mut each = step_room();
+    read_steps(n, table, &mut each)?;
     check_size(levels.len(), m)?;
     let mut x = spectrum_room();
     levels::fill_restored(levels, &each[..m], &mut x[..m]);
