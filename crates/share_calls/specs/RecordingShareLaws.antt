@@ -1,15 +1,14 @@
 -- Laws of the calls on shares over recordings: what they answer by their causes.
-use Rattle.std.specs.Prelude.{◌≡◌, ◌≢◌, true, false, cond, List, ◌++◌, ℕ, eqb, ◌+◌, ◌-◌, ◌*◌, ◌/◌, ◌^◌, ◌≤◌, ◌<◌, T, length, take, replicate, ℤ, pos}
-use Rattle.std.proofs.Common.{ap, ◌∙◌, arith}
+use Rattle.std.specs.Prelude.{◌≡◌, ◌≢◌, true, false, cond, List, ◌++◌, ℕ, eqb, ◌+◌, ◌*◌, ◌/◌, ◌^◌, ◌≤◌, ◌<◌, T, length, take, ℤ}
+use Rattle.std.proofs.Common.{ap, ◌∙◌, arith, length-append}
+use Rattle.std.proofs.Math.Seq.{take_at}
 use Rattle.std.proofs.Math.Dec.{eqb→eq, ltb→lt}
 use Rattle.arithmetic.specs.Lists.{every, Small}
 use Rattle.arithmetic.specs.TestLaws.{both_left, both_right, is_T, is_true}
 use Rattle.cosine.specs.Kernels.{tabled}
-use Rattle.cosine.specs.LengthLaws.{tabled_length}
 use Rattle.orders.specs.declared.Order.{Order}
 use Rattle.orders.specs.Orders.{part}
-use Rattle.orders.specs.OrderLaws.{part_long, part_small, front_part}
-use Rattle.orders.specs.OrderLaws as O
+use Rattle.orders.specs.OrderLaws.{part_long, part_small}
 use Rattle.checks.specs.Limits.{in_range, counted}
 use Rattle.checks.specs.LimitLaws.{range_small}
 use Rattle.checks.specs.Causes.{Cause}
@@ -27,15 +26,16 @@ pub record Gathered (M : ℕ) (block room : List ℤ) : Type 0 where
   pub fits : M ≤ length room
   pub small : Small (take M room) (2 ^ 29)
 
-pub gathered_block : (order : Order) (N H : ℕ) (x : List ℤ) (b : ℕ) (room : List ℤ) → T (tabled N) → b ≤ H → length x ≡ (H + 1) * (N / 2) → Small x (2 ^ 29) →
-    room ≡ part order (N / 2) (H + 1) x b ++ replicate (108 - N / 2) (pos 0) → Gathered (N / 2) (part order (N / 2) (H + 1) x b) room
-gathered_block order N H x b room t p l r e =
-    let h : N / 2 ≤ 108 = omega (arith, (tabled_length N t).most) in
-    let f : take (N / 2) room ≡ part order (N / 2) (H + 1) x b = front_part (N / 2) (H + 1) order x b h room e in
+pub gathered_block : (order : Order) (N H : ℕ) (x : List ℤ) (b : ℕ) (room rest : List ℤ) → b ≤ H → length x ≡ (H + 1) * (N / 2) → Small x (2 ^ 29) →
+    room ≡ part order (N / 2) (H + 1) x b ++ rest → Gathered (N / 2) (part order (N / 2) (H + 1) x b) room
+gathered_block order N H x b room rest p l r e =
+    let block = part order (N / 2) (H + 1) x b in
+    let long : length block ≡ N / 2 = part_long (N / 2) (H + 1) order x b in
+    let f : take (N / 2) room ≡ block = ap (take (N / 2)) e ∙ take_at block rest (N / 2) long in
     record {
       front = f;
-      long = ap length f ∙ part_long (N / 2) (H + 1) order x b;
-      fits = omega (arith, h, O.room_long (N / 2) (H + 1) order x b h room e);
+      long = ap length f ∙ long;
+      fits = omega (arith, ap length e, length-append block rest, long);
       small = rw f (part_small (N / 2) (H + 1) order x l (2 ^ 29) r b (omega arith));
     }
 

@@ -53,14 +53,15 @@ fn numbered_from(hop: usize, found: Option<Share>) -> Option<Share>
     })
 }
 
-// The coefficients of block b of a recording, in front of room for those of the longest.
-fn gathered(order: Order, n: usize, hops: usize, x: &[i32], b: usize) -> [i32; orders::ROOM]
+// The coefficients of block b of a recording, into the front of room for those of the longest.
+fn gather(order: Order, n: usize, hops: usize, x: &[i32], b: usize, room: &mut [i32])
     requires placed { T (tabled n) × (hops ≤ 4095) × (b ≤ hops) }
     requires long { length x.now ≡ (hops + 1) * (n / 2) }
     requires small { Small x.now (2 ^ 29) }
-    ensures { Gathered (n / 2) (part order (n / 2) (hops + 1) x.now b) result }
+    requires room { length room.old ≡ 108 }
+    ensures { Gathered (n / 2) (part order (n / 2) (hops + 1) x.now b) room.new }
 {
-    orders::gathered(order, n / 2, hops + 1, b, x)
+    orders::gather(order, hops + 1, b, x, &mut room[..n / 2]);
 }
 
 // What is named between the two blocks that cover a hop, which are gathered; its block counted in the recording.
@@ -79,10 +80,14 @@ fn name_at(
     ensures { named_by result ≡ numbered_from hop (share_at order n hops change.entry.original.now change.entry.changed.now hop place) }
 {
     let m = n / 2;
-    let first = gathered(order, n, hops, change.original, hop);
-    let first_changed = gathered(order, n, hops, change.changed, hop);
-    let second = gathered(order, n, hops, change.original, hop + 1);
-    let second_changed = gathered(order, n, hops, change.changed, hop + 1);
+    let mut first = orders::room();
+    gather(order, n, hops, change.original, hop, &mut first);
+    let mut first_changed = orders::room();
+    gather(order, n, hops, change.changed, hop, &mut first_changed);
+    let mut second = orders::room();
+    gather(order, n, hops, change.original, hop + 1, &mut second);
+    let mut second_changed = orders::room();
+    gather(order, n, hops, change.changed, hop + 1, &mut second_changed);
     let found = name(
         n,
         0,
