@@ -15,7 +15,7 @@ use Rattle.level.specs.Levels.{place_at, IsLevel, IsJoin, plus_of, minus_of, dou
 use Rattle.arithmetic.specs.ListLaws.{table_ext}
 use Rattle.level.specs.Spots.{near_2, far_2, near_4, far_4, near_6, far_6, near_12, far_12, near_18, far_18, near_36, far_36, near_54, far_54, near_108, far_108}
 
--- the kernel read place_at the table of 217 numbers, which computes
+-- the kernel read from the table of 217 numbers, which computes
 unfoldable pub read_kernel : ℕ → ℕ → ℕ → ℤ
 read_kernel m a b = turn_by a (turn_by b (table_c (pos (d (2 * m) * (2 * spot a + 1) * (2 * spot b + 1)))))
 
@@ -93,7 +93,7 @@ pub pairs_108 : Pairs 36 12 (place_at near_108) (place_at far_108) (place_at nea
 unfolding places counts same_sides other_sides near_thirds far_thirds order read_kernel all sum same table_c continued to_turn to_half reduced numbers near_108 far_108 near_36 far_36
 pairs_108 = pairs_of 36 12 (place_at near_108) (place_at far_108) (place_at near_36) (place_at far_36) tt tt tt tt tt tt tt
 
--- ---- a level's kernels, read place_at the table of 217 numbers
+-- ---- a level's kernels, read from the table of 217 numbers
 unfoldable pub tabled_plus : ℕ → (ℕ → ℕ) → (ℕ → ℕ) → List (List ℤ)
 tabled_plus h n f = table h (λ k. table h (λ i. read_kernel (h + (h + h)) (n i) (n k) +ℤ read_kernel (h + (h + h)) (n i) (f k)))
 

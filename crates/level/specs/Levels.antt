@@ -36,7 +36,7 @@ pub record IsLevel (h l : ℕ) (near far : List ℕ) (plus minus : List (List �
 abbrev pub three_to_one : ℕ → List ℤ → ℕ → ℤ
 three_to_one h z q = at z q -ℤ at z (h + (h - 1 - q)) -ℤ at z (h + (h + q))
 
--- the pairs' sums place_at their sums and differences, and behind them every third's
+-- the pairs' sums from their sums and differences, and behind them every third's
 abbrev pub joined_at : ℕ → List ℤ → List ℤ → List ℤ → ℕ → ℤ
 joined_at h p m s i =
     cond (ltb i h) (at p i +ℤ at m i) (cond (ltb i (h + h)) (at p (i - h) -ℤ at m (i - h)) (at s (i - (h + h))))

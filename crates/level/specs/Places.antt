@@ -4,7 +4,7 @@ use Rattle.arithmetic.specs.Sums.{sum}
 use Rattle.arithmetic.specs.Lists.{at, table}
 use Rattle.cosine.specs.Kernels.{F}
 
--- a place, place_at 128 on with its number turned
+-- a place; from 128 on what lies there is turned
 abbrev pub spot : ℕ → ℕ
 spot e = cond (ltb e 128) e (e - 128)
 

@@ -136,7 +136,7 @@ pub record Summed (N : ℕ) (y a b g : List ℤ) : Type 0 where
   pub b_is : b ≡ summed 1 N y
   pub g_is : g ≡ summed 2 N y
 
--- from the folded inputs, and from the inputs as the code lends them, without what the lifts added
+-- from the folded inputs
 module _ (P : ℕ) (p : Part P) (w : List ℤ) (long : length w ≡ P) where
   pub halved-sums : (s : List ℤ) → s ≡ table (P / 2) (folds P (halved w)) → s ≡ table (P / 2) (S P (at w))
   halved-sums s h =

@@ -19,7 +19,7 @@ use Rattle.split.specs.ShortSizeLaws.{e-size, f-size, e_b_size, f_b_size, e_c_si
 unfoldable pub rotated : ℕ → (ℕ → ℤ) → List ℤ → List ℤ → ℕ → ℤ
 rotated N y p q n = rnd (e N y n *ℤ at p n +ℤ f N y n *ℤ at q n) (2 ^ 26)
 
--- the size of the inputs that are turned in a part of n: the products of lifted numbers, from 36 on, take less than the others
+-- the size of the inputs that are turned in a part of n, within which no sum overflows; from 36 on a part is a windowed block, within 2^23
 unfoldable pub limit : ℕ → ℕ
 limit n = cond (ltb n 36) (2 ^ 26) (2 ^ 25)
 
